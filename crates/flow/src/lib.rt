@@ -1,0 +1,2 @@
+// What a plan is, and why a full mesh is full.
+pub mod pairs;
