@@ -1,0 +1,4 @@
+mod Changes
+mod Distinct
+mod Linking
+mod Pasts

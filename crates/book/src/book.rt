@@ -1,0 +1,13 @@
+ghost use Rattle.book.specs.History.{Past};
+ghost use Rattle.book.specs.Ledgers.{seen};
+use crate::ledger::Ledger;
+
+// A book: what it holds was reached by calls alone.
+#[derive(Drop)]
+pub struct Book {
+    ledger: Ledger,
+    ghost reached: { ∥ Past (seen ledger) ∥₁ },
+}
+
+pub mod calls;
+pub mod reads;

@@ -1,0 +1,19 @@
+ghost use mathlib.Core.Path.{_≡_};
+ghost use Rattle.book.specs.Ledgers.{seen};
+use crate::ledger::Ledger;
+use crate::row::Row;
+use flow::pairs::Pairs;
+
+impl Ledger {
+    pub fn links(&self) -> &[Row]
+        ensures { λ r. ⌜ now r ≡ seen (now (self .entry)) .rows ⌝ }
+    {
+        self.rows.as_slice()
+    }
+
+    pub fn pairs(&self) -> Option<Pairs>
+        ensures { λ r. ⌜ r ≡ seen (now (self .entry)) .pairs ⌝ }
+    {
+        self.pairs
+    }
+}
