@@ -9,7 +9,7 @@ use flow::pairs::Pairs;
 // What a book holds. A held plan has its shares at the front of `one` and `two`,
 // which are as long as a book may have links. All memory is taken when it is opened.
 #[derive(Drop)]
-pub struct Ledger {
+pub(crate) struct Ledger {
     rows: Vec<Row>,
     one: Vec<i32>,
     two: Vec<i32>,
@@ -22,5 +22,5 @@ pub struct Ledger {
     ghost twos: { vec-len two ≡ 512 },
 }
 
-pub mod calls;
-pub mod reads;
+pub(crate) mod calls;
+pub(crate) mod reads;

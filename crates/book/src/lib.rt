@@ -1,7 +1,7 @@
 // The book: a mesh of links, the two streams' pairs, and what follows from the calls on it.
 pub mod book;
 pub mod fault;
-pub mod ledger;
+mod ledger;
 pub mod link;
 pub mod plan;
 pub mod row;

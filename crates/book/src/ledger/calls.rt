@@ -25,7 +25,7 @@ fn no_shares(heap: Global) -> Result<Vec<i32>, AllocError>
 }
 
 impl Ledger {
-    pub fn open(heap: Global) -> Result<Ledger, AllocError>
+    pub(crate) fn open(heap: Global) -> Result<Ledger, AllocError>
         ensures { λ r. ⌜ made r (λ b. seen b ≡ opened) ⌝ }
     {
         let rows = Vec::with_capacity(heap, MOST_LINKS)?;
@@ -53,7 +53,7 @@ impl Ledger {
         false
     }
 
-    pub fn add(&mut self, one: u8, other: u8, slots: u32) -> Result<(), Fault>
+    pub(crate) fn add(&mut self, one: u8, other: u8, slots: u32) -> Result<(), Fault>
         ensures step { λ r. ⌜ Step (seen (now (self .entry))) (Add one other slots) r (seen (now (self .exit))) ⌝ }
         ensures stays { λ r. ⌜ Stays r (now (self .entry)) (now (self .exit)) ⌝ }
     {
@@ -73,7 +73,7 @@ impl Ledger {
         Ok(())
     }
 
-    pub fn resize(&mut self, link: u16, slots: u32) -> Result<(), Fault>
+    pub(crate) fn resize(&mut self, link: u16, slots: u32) -> Result<(), Fault>
         ensures step { λ r. ⌜ Step (seen (now (self .entry))) (Resize link slots) r (seen (now (self .exit))) ⌝ }
         ensures stays { λ r. ⌜ Stays r (now (self .entry)) (now (self .exit)) ⌝ }
     {
@@ -87,7 +87,7 @@ impl Ledger {
         if at >= self.rows.len() {
             return Err(Fault::NoLink);
         }
-        self.held = None;
+        self.held = None; // also where the number stays the same
         let Row {
             low,
             high,
@@ -97,7 +97,7 @@ impl Ledger {
         Ok(())
     }
 
-    pub fn drop_link(&mut self, link: u16) -> Result<(), Fault>
+    pub(crate) fn drop_link(&mut self, link: u16) -> Result<(), Fault>
         ensures step { λ r. ⌜ Step (seen (now (self .entry))) (Drop link) r (seen (now (self .exit))) ⌝ }
         ensures stays { λ r. ⌜ Stays r (now (self .entry)) (now (self .exit)) ⌝ }
     {
@@ -113,7 +113,7 @@ impl Ledger {
         Ok(())
     }
 
-    pub fn name(&mut self, pairs: Pairs) -> Result<(), Fault>
+    pub(crate) fn name(&mut self, pairs: Pairs) -> Result<(), Fault>
         ensures step { λ r. ⌜ Step (seen (now (self .entry))) (Name pairs) r (seen (now (self .exit))) ⌝ }
         ensures stays { λ r. ⌜ Stays r (now (self .entry)) (now (self .exit)) ⌝ }
     {

@@ -5,13 +5,13 @@ use crate::row::Row;
 use flow::pairs::Pairs;
 
 impl Ledger {
-    pub fn links(&self) -> &[Row]
+    pub(crate) fn links(&self) -> &[Row]
         ensures { λ r. ⌜ now r ≡ seen (now (self .entry)) .rows ⌝ }
     {
         self.rows.as_slice()
     }
 
-    pub fn pairs(&self) -> Option<Pairs>
+    pub(crate) fn pairs(&self) -> Option<Pairs>
         ensures { λ r. ⌜ r ≡ seen (now (self .entry)) .pairs ⌝ }
     {
         self.pairs
