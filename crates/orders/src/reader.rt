@@ -1,0 +1,57 @@
+ghost use mathlib.Core.Path.{_≡_};
+ghost use denote.Ref.{now as behind};
+ghost use lib.ListN.{length, drop};
+ghost use Prim.Native.Nat.{_≤_, _+_};
+ghost use Rattle.orders.specs.Records.{read, orders, taken};
+ghost use Rattle.orders.specs.Readings.{seen};
+use crate::kind::Kind;
+use crate::record::Record;
+use crate::record::RecordFault;
+
+// A file with the place up to which it has been read.
+#[derive(Drop)]
+pub struct Reader<'a> {
+    file: &'a [u8],
+    place: usize,
+    ghost within: { place ≤ length (behind file) },
+}
+
+impl<'a> Reader<'a> {
+    pub fn new(file: &'a [u8]) -> Reader<'a>
+        ensures file { λ r. ⌜ now (r .file) ≡ now (file .entry) ⌝ }
+        ensures place { λ r. ⌜ r .place ≡ 0 ⌝ }
+    {
+        Reader { file, place: 0 }
+    }
+
+    // The place of the first byte that has not been read.
+    pub fn place(&self) -> usize
+        ensures { λ r. ⌜ r ≡ now (self .entry) .place ⌝ }
+    {
+        self.place
+    }
+
+    // The next record, none at the file's end, or the fault at this place, which then stays.
+    pub fn next(&mut self) -> Result<Option<Record<'a>>, RecordFault>
+        ensures read { λ r. ⌜ seen r ≡ read orders (drop (now (self .entry) .place) (now (now (self .entry) .file))) ⌝ }
+        ensures place { λ r. ⌜ now (self .exit) .place ≡ now (self .entry) .place + taken (seen r) ⌝ }
+        ensures file { λ _. ⌜ now (now (self .exit) .file) ≡ now (now (self .entry) .file) ⌝ }
+    {
+        let (_, left) = self.file.split_at(self.place);
+        let [first, second, rest @ ..] = left else {
+            return if left.is_empty() {
+                Ok(None)
+            } else {
+                Err(RecordFault::Short)
+            };
+        };
+        let Some(kind) = Kind::of_mark(*first, *second) else {
+            return Err(RecordFault::Unknown);
+        };
+        let Some(body) = rest.get(0..kind.body_len()) else {
+            return Err(RecordFault::Short);
+        };
+        self.place += 2 + body.len();
+        Ok(Some(Record::new(kind, body)))
+    }
+}
