@@ -1,3 +1,6 @@
 pub mod Faults
 pub mod Records
 pub mod Readings
+pub mod Values
+pub mod Meanings
+pub mod Surveys

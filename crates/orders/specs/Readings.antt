@@ -1,15 +1,13 @@
 -- The reader's answers as the definitions on lists of bytes have them.
 use mathlib.Core.List.{[]}
 use denote.Ref.{now}
-use Rattle.std.specs.declared.option.Option.{Option}
-use Rattle.std.specs.declared.option.Option.the-variants.{Some, None}
 use Rattle.std.specs.declared.result.Result.{Result}
 use Rattle.std.specs.declared.result.Result.the-variants.{Ok, Err}
 use Rattle.orders.specs.declared.kind.Kind.{Kind}
 use Rattle.orders.specs.declared.kind.Kind.the-variants as kinds
 use Rattle.orders.specs.declared.record.Record.{Record}
 use Rattle.orders.specs.declared.record.Record.the-variants.{Lk, Sz, Dr, St, Pl}
-use Rattle.orders.specs.declared.record.RecordFault.{RecordFault}
+use Rattle.orders.specs.declared.record.Stop.{Stop}
 use Rattle.orders.specs.Records.{Item, entry}
 
 -- A record's line of the table and the bytes of its body.
@@ -21,7 +19,6 @@ item (St b) = record { entry = entry kinds.St; body = now b }
 item Pl = record { entry = entry kinds.Pl; body = [] }
 
 -- What a call of the reader gave, with the bytes for the part of the file.
-abbrev pub seen : Result (Option Record) RecordFault → Result (Option (Item Kind)) RecordFault
-seen (Ok None) = Ok None
-seen (Ok (Some r)) = Ok (Some (item r))
-seen (Err f) = Err f
+abbrev pub seen : Result Record Stop → Result (Item Kind) Stop
+seen (Ok r) = Ok (item r)
+seen (Err stop) = Err stop

@@ -52,21 +52,20 @@ lookup [] a b = None
 lookup (e ∷ es) a b = cond (eqb a (e .first) && eqb b (e .second)) (Some e) (lookup es a b)
 
 -- What the bytes after a mark give: a body of the mark's length, where there are enough.
-abbrev pub cut : {K : Type 0} → Option (Entry K) → List ℕ → Result (Option (Item K)) RecordFault
-cut None bs = Err Unknown
-cut (Some e) bs = cond (leb (e .long) (length bs)) (Ok (Some (record { entry = e; body = take (e .long) bs }))) (Err Short)
+abbrev pub cut : {K : Type 0} → Option (Entry K) → List ℕ → Result (Item K) Stop
+cut None bs = Err (Fault Unknown)
+cut (Some e) bs = cond (leb (e .long) (length bs)) (Ok (record { entry = e; body = take (e .long) bs })) (Err (Fault Short))
 
--- What reading gives where these bytes are left: the record at their front, none at the end, or a fault.
-abbrev pub read : {K : Type 0} → List (Entry K) → List ℕ → Result (Option (Item K)) RecordFault
-read table [] = Ok None
-read table (a ∷ []) = Err Short
+-- What reading gives where these bytes are left: the record at their front, or why there is none.
+abbrev pub read : {K : Type 0} → List (Entry K) → List ℕ → Result (Item K) Stop
+read table [] = Err End
+read table (a ∷ []) = Err (Fault Short)
 read table (a ∷ b ∷ bs) = cut (lookup table a b) bs
 
--- How many bytes a reading takes: those of the record, and none at the end or at a fault.
-abbrev pub taken : {K : Type 0} → Result (Option (Item K)) RecordFault → ℕ
-taken (Ok None) = 0
-taken (Ok (Some i)) = length (bytes i)
-taken (Err f) = 0
+-- How many bytes a reading takes: those of the record, and none where it stops.
+abbrev pub taken : {K : Type 0} → Result (Item K) Stop → ℕ
+taken (Ok i) = length (bytes i)
+taken (Err stop) = 0
 
 -- A record that stands in the table, with a body of its length.
 pub record Known {K : Type 0} (table : List (Entry K)) (i : Item K) : Type 0 where

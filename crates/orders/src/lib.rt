@@ -1,4 +1,6 @@
 // Order files: reading them record by record, and what each record asks for.
 pub mod kind;
+pub mod order;
 pub mod reader;
 pub mod record;
+pub mod survey;

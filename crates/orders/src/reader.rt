@@ -3,10 +3,13 @@ ghost use denote.Ref.{now as behind};
 ghost use lib.ListN.{length, drop};
 ghost use Prim.Native.Nat.{_≤_, _+_};
 ghost use Rattle.orders.specs.Records.{read, orders, taken};
+ghost use Rattle.orders.specs.Meanings.{ordered};
 ghost use Rattle.orders.specs.Readings.{seen};
 use crate::kind::Kind;
+use crate::order::Order;
 use crate::record::Record;
 use crate::record::RecordFault;
+use crate::record::Stop;
 
 // A file with the place up to which it has been read.
 #[derive(Drop)]
@@ -31,27 +34,40 @@ impl<'a> Reader<'a> {
         self.place
     }
 
-    // The next record, none at the file's end, or the fault at this place, which then stays.
-    pub fn next(&mut self) -> Result<Option<Record<'a>>, RecordFault>
+    // The next record; where there is none, why, and the place stays.
+    pub fn next(&mut self) -> Result<Record<'a>, Stop>
         ensures read { λ r. ⌜ seen r ≡ read orders (drop (now (self .entry) .place) (now (now (self .entry) .file))) ⌝ }
         ensures place { λ r. ⌜ now (self .exit) .place ≡ now (self .entry) .place + taken (seen r) ⌝ }
         ensures file { λ _. ⌜ now (now (self .exit) .file) ≡ now (now (self .entry) .file) ⌝ }
     {
         let (_, left) = self.file.split_at(self.place);
         let [first, second, rest @ ..] = left else {
-            return if left.is_empty() {
-                Ok(None)
+            return Err(if left.is_empty() {
+                Stop::End
             } else {
-                Err(RecordFault::Short)
-            };
+                Stop::Fault(RecordFault::Short)
+            });
         };
         let Some(kind) = Kind::of_mark(*first, *second) else {
-            return Err(RecordFault::Unknown);
+            return Err(Stop::Fault(RecordFault::Unknown));
         };
         let Some(body) = rest.get(0..kind.body_len()) else {
-            return Err(RecordFault::Short);
+            return Err(Stop::Fault(RecordFault::Short));
         };
         self.place += 2 + body.len();
-        Ok(Some(Record::new(kind, body)))
+        Ok(Record::new(kind, body))
+    }
+
+    // The order of the next record; where there is none, why, and the place stays.
+    pub fn next_order(&mut self) -> Result<Order, Stop>
+        ensures read { λ r. ⌜ r ≡ ordered (read orders (drop (now (self .entry) .place) (now (now (self .entry) .file)))) ⌝ }
+        ensures place { λ _. ⌜ now (self .exit) .place ≡ now (self .entry) .place + taken (read orders (drop (now (self .entry) .place) (now (now (self .entry) .file)))) ⌝ }
+        ensures file { λ _. ⌜ now (now (self .exit) .file) ≡ now (now (self .entry) .file) ⌝ }
+    {
+        let record = self.next()?;
+        let Some(order) = record.order() else {
+            unreachable()
+        };
+        Ok(order)
     }
 }

@@ -1,0 +1,2 @@
+pub mod ReadOne
+pub mod ReadAll
