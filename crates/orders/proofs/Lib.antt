@@ -1,2 +1,3 @@
 pub mod ReadOne
 pub mod ReadAll
+pub mod ReadOrders

@@ -1,15 +1,14 @@
 -- How readings follow one another to the end of a file, and that a file has one reading.
 use mathlib.Core.List.{List, [], _∷_, _++_, append-assoc}
 use mathlib.Core.Path.{_≡_, refl, sym, ap, subst, _∙_}
-use Prim.Native.Nat.{ℕ, zero, suc, _+_, _*_, _<_, _≤_}
+use Prim.Native.Nat.{ℕ, zero, suc, _+_, _*_, _≤_}
 use native.Mathlib.Omega.{arith}
-use lib.ListN.{length, take, drop}
-use Rattle.std.specs.shelf.Lists.{All, Has, joined}
+use lib.ListN.{length, drop}
+use Rattle.std.specs.shelf.Lists.{All, joined}
 use Rattle.std.proofs.shelf.Elements.{all-push}
-use Rattle.std.proofs.shelf.Lists.{length-append, append-nil, append-cancel-left, drop-drop, joined-more, length-push}
+use Rattle.std.proofs.shelf.Lists.{length-append, append-cancel-left, drop-drop, joined-more}
 use Rattle.std.specs.declared.result.Result.{Result}
 use Rattle.std.specs.declared.result.Result.the-variants.{Ok, Err}
-use Rattle.orders.specs.declared.kind.Kind.{Kind}
 use Rattle.orders.specs.declared.record.Stop.{Stop}
 use Rattle.orders.specs.Records.{Entry, Item, bytes, read, orders, Known, Stops, ReadAs, ReadUpTo, Read-once}
 use Rattle.orders.proofs.ReadOne.{Apart, known-read, read-front, read-stops, stops-same, stops-before}

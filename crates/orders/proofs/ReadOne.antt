@@ -1,15 +1,15 @@
 -- What one reading gives, for any table in which no two lines have the same mark.
 use mathlib.Core.Bool.{Bool, true, false, _&&_, cond}
 use mathlib.Core.List.{List, [], _∷_, _++_}
-use mathlib.Core.Logic.{_⊎_, inl, inr}
-use mathlib.Core.Path.{_≡_, refl, sym, ap, subst, _∙_}
-use Prim.Native.Nat.{ℕ, zero, suc, _+_, _<_, _≤_}
+use mathlib.Core.Logic.{inl, inr}
+use mathlib.Core.Path.{_≡_, refl, ap, subst, _∙_}
+use Prim.Native.Nat.{ℕ, _+_, _≤_}
 use native.Mathlib.Omega.{arith}
 use lib.Dec.{eqb, leb}
 use lib.ListN.{length, take, drop}
 use Rattle.std.specs.shelf.Lists.{All, Has}
 use Rattle.std.proofs.shelf.Elements.{all-has, has-append-right}
-use Rattle.std.proofs.shelf.Lists.{length-append, length-take-le, take-append-drop, take-at, drop-at, nil-from-length}
+use Rattle.std.proofs.shelf.Lists.{length-append, length-take-le, take-append-drop, take-at}
 use Rattle.std.proofs.shelf.Tests.{and-parts, eqb-true, leb-true, leb-false, le-leb, cond-true}
 use Rattle.std.specs.declared.option.Option.{Option}
 use Rattle.std.specs.declared.option.Option.the-variants.{Some, None}

@@ -25,7 +25,7 @@ pub record Entry (K : Type 0) : Type 0 where
   pub second : ℕ
   pub long : ℕ
 
--- The marks are the letters of the kinds' names, and each kind has a body of one length.
+-- The marks are the ASCII letters LK, SZ, DR, ST and PL, and each kind has bodies of one length.
 abbrev pub entry : Kind → Entry Kind
 entry Lk = record { kind = Lk; first = 76; second = 75; long = 6 }
 entry Sz = record { kind = Sz; first = 83; second = 90; long = 6 }

@@ -20,6 +20,7 @@ pub struct Reader<'a> {
 }
 
 impl<'a> Reader<'a> {
+    // A reader at the file's first byte.
     pub fn new(file: &'a [u8]) -> Reader<'a>
         ensures file { λ r. ⌜ now (r .file) ≡ now (file .entry) ⌝ }
         ensures place { λ r. ⌜ r .place ≡ 0 ⌝ }
@@ -40,7 +41,8 @@ impl<'a> Reader<'a> {
         ensures place { λ r. ⌜ now (self .exit) .place ≡ now (self .entry) .place + taken (seen r) ⌝ }
         ensures file { λ _. ⌜ now (now (self .exit) .file) ≡ now (now (self .entry) .file) ⌝ }
     {
-        let (_, left) = self.file.split_at(self.place);
+        let Reader { file, place } = self;
+        let (_, left) = file.split_at(*place);
         let [first, second, rest @ ..] = left else {
             return Err(if left.is_empty() {
                 Stop::End
@@ -54,7 +56,7 @@ impl<'a> Reader<'a> {
         let Some(body) = rest.get(0..kind.body_len()) else {
             return Err(Stop::Fault(RecordFault::Short));
         };
-        self.place += 2 + body.len();
+        *place += 2 + body.len();
         Ok(Record::new(kind, body))
     }
 

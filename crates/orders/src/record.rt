@@ -1,4 +1,3 @@
-ghost use mathlib.Core.List.{[], _∷_};
 ghost use mathlib.Core.Path.{_≡_};
 ghost use lib.ListN.{length};
 ghost use Rattle.orders.specs.Faults.{number as numberOf};
@@ -59,6 +58,7 @@ impl<'a> Record<'a> {
         }
     }
 
+    // The record's kind.
     pub fn kind(&self) -> Kind
         ensures { λ r. ⌜ r ≡ item (now (self .entry)) .entry .kind ⌝ }
     {

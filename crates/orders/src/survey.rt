@@ -12,6 +12,7 @@ pub struct Survey {
 }
 
 impl Survey {
+    // Reads the file record by record to where reading stops.
     pub fn of(file: &[u8]) -> Survey
         ensures { λ r. ⌜ Surveyed (now (file .entry)) r ⌝ }
     {
