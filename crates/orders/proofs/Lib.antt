@@ -1,0 +1,4 @@
+pub mod ReadOne
+pub mod ReadAll
+pub mod ReadOrders
+mod Telling

@@ -1,0 +1,39 @@
+-- The lines that a run tells, as bytes.
+use mathlib.Core.List.{List, [], _∷_, _++_}
+use Prim.Native.Nat.{ℕ}
+use lib.Chars.{codes}
+use Rattle.std.specs.Written.{decimal}
+use Rattle.book.specs.declared.fault.Layer.{Layer}
+use Rattle.book.specs.declared.fault.Layer.the-variants.{Order, Book}
+use Rattle.book.specs.Faults.{number, layer}
+use Rattle.orders.specs.declared.kind.Kind.{Kind}
+use Rattle.orders.specs.declared.line.Line.{Line}
+use Rattle.orders.specs.declared.line.Line.the-variants.{Done, Refused, Unplanned, End, Unread, TooLong}
+use Rattle.orders.specs.Faults as record-faults
+use Rattle.orders.specs.Records.{entry}
+
+-- A kind is told by its mark.
+abbrev pub mark-text : Kind → List ℕ
+mark-text kind = entry kind .first ∷ entry kind .second ∷ []
+
+-- A layer is told by its name.
+abbrev pub layer-text : Layer → List ℕ
+layer-text Order = codes "order"
+layer-text Book = codes "book"
+
+-- The most bytes that an order file may have.
+abbrev pub most-bytes : ℕ
+most-bytes = 65536
+
+-- A line's words: an order is told by its place among the orders, a fault by its number, its place in the file and its layer.
+abbrev pub spelled : Line → List ℕ
+spelled (Done n kind) = decimal n ++ (codes " " ++ (mark-text kind ++ codes " ok"))
+spelled (Refused n kind fault at) = decimal n ++ (codes " " ++ (mark-text kind ++ (codes " " ++ (decimal (number fault) ++ (codes " at " ++ (decimal at ++ (codes " " ++ layer-text (layer fault))))))))
+spelled (Unplanned n) = decimal n ++ codes " PL planning is not there yet"
+spelled (End n) = codes "end " ++ decimal n
+spelled (Unread fault at) = codes "fault " ++ (decimal (record-faults.number fault) ++ (codes " at " ++ (decimal at ++ codes " record")))
+spelled TooLong = codes "fault 13 at " ++ (decimal most-bytes ++ codes " program")
+
+-- A line ends with a line feed.
+abbrev pub ended : Line → List ℕ
+ended line = spelled line ++ (10 ∷ [])
