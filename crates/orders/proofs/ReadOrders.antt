@@ -1,15 +1,13 @@
 -- From the reader's orders back to the records that ask for them.
-use mathlib.Core.List.{List}
 use mathlib.Core.Path.{_≡_, refl}
 use Prim.Native.Nat.{ℕ}
 use native.Mathlib.Omega.{arith}
 use Rattle.std.specs.declared.result.Result.{Result}
 use Rattle.std.specs.declared.result.Result.the-variants.{Ok, Err}
 use Rattle.orders.specs.declared.kind.Kind.{Kind}
-use Rattle.orders.specs.declared.kind.Kind.the-variants.{Lk, Sz, Dr, St, Pl}
 use Rattle.orders.specs.declared.order.Order.{Order}
 use Rattle.orders.specs.declared.record.Stop.{Stop}
-use Rattle.orders.specs.Meanings.{asked, meaning, order, ordered}
+use Rattle.orders.specs.Meanings.{order, ordered}
 use Rattle.orders.specs.Records.{Item}
 
 -- An order comes from a record that was read.
@@ -21,11 +19,3 @@ ordered-item (Err stop) o h = let z : _≡_ {A = ℕ} 0 1 = cc in absurd (omega 
 pub ordered-stop : (r : Result (Item Kind) Stop) (stop : Stop) → Err stop ≡ ordered r → Err stop ≡ r
 ordered-stop (Ok i) stop h = let z : _≡_ {A = ℕ} 0 1 = cc in absurd (omega arith)
 ordered-stop (Err other) stop h = cc
-
--- The kind that asks for a body's order is the body's kind.
-pub asked-meaning : (k : Kind) (body : List ℕ) → asked (meaning k body) ≡ k
-asked-meaning Lk body = refl
-asked-meaning Sz body = refl
-asked-meaning Dr body = refl
-asked-meaning St body = refl
-asked-meaning Pl body = refl

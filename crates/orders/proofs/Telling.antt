@@ -18,6 +18,7 @@ use Rattle.orders.specs.Meanings.{order, ordered}
 use Rattle.orders.specs.Records.{Item, bytes, read, taken, orders, ReadAs, ReadUpTo}
 use Rattle.orders.specs.Runs.{Carried, Tells, Ran, last-line}
 use Rattle.orders.specs.Runs.Tells.{none, next}
+use Rattle.orders.proofs.ReadOrders.{ordered-item, ordered-stop}
 use Rattle.orders.proofs.ReadAll.{joined-long, read-none, read-more, read-stopped, orders-apart}
 
 -- The records before a place have been carried out in turn, and the text is their lines.
@@ -41,16 +42,6 @@ told-none s file place text at-start empty =
       text-is = empty;
     }
 
--- An order that was read is the order of a record.
-of-record : (r : Result (Item Kind) Stop) (o : Order) → Ok o ≡ ordered r → (i : Item Kind) × ((Ok i ≡ r) × (o ≡ order i))
-of-record (Ok i) o e = (i, (refl, cc))
-of-record (Err stop) o e = let z : _≡_ {A = ℕ} 0 1 = cc in absurd (omega arith)
-
--- Where no order was read, no record was.
-of-stop : (r : Result (Item Kind) Stop) (stop : Stop) → Err stop ≡ ordered r → Err stop ≡ r
-of-stop (Ok i) stop e = let z : _≡_ {A = ℕ} 0 1 = cc in absurd (omega arith)
-of-stop (Err other) stop e = cc
-
 -- A record takes at least its mark.
 pub taken-some : (r : Result (Item Kind) Stop) (o : Order) → Ok o ≡ ordered r → 2 ≤ taken r
 taken-some (Ok i) o e = omega arith
@@ -69,15 +60,15 @@ module _ (s : State) (file : List ℕ) {place count : ℕ} {text : List ℕ} {t 
   -- One order more.
   pub told-more : {after : ℕ} {text′ : List ℕ} (u : State) (line : Line) (o : Order) → Ok o ≡ ordered (read orders (drop place other)) → after ≡ place + taken (read orders (drop place other)) → Carried (count + 1) place t o line u → text′ ≡ text ++ ended line → Told-so-far s file after (count + 1) text′ u
   told-more u line o got to carried wrote =
-      let w = of-record (read orders (drop place other)) o got in
+      let w = ordered-item (read orders (drop place other)) o got in
       let i = w .0 in
-      let long = to ∙ ap (λ (r : Result (Item Kind) Stop). place + taken r) (sym (w .1 .0)) in
+      let long = to ∙ ap (λ (r : Result (Item Kind) Stop). place + taken r) (sym (w .1)) in
       record {
         items = so .items ++ i ∷ [];
-        read-to = read-more orders file (so .read-to) same (w .1 .0) long;
+        read-to = read-more orders file (so .read-to) same (w .1) long;
         counts = omega (arith, so .counts, length-push (so .items) i);
         told = so .told ++ line ∷ [];
-        tells = next i line (so .tells) (subst (λ (at : ℕ). Carried (length (so .items) + 1) at t (order i) line u) (so .read-to .long) (subst (λ (n : ℕ). Carried (n + 1) place t (order i) line u) (so .counts) (subst (λ (x : Order). Carried (count + 1) place t x line u) (w .1 .1) carried)));
+        tells = next i line (so .tells) (subst (λ (at : ℕ). Carried (length (so .items) + 1) at t (order i) line u) (so .read-to .long) (subst (λ (n : ℕ). Carried (n + 1) place t (order i) line u) (so .counts) (subst (λ (x : Order). Carried (count + 1) place t x line u) (w .2) carried)));
         text-is = wrote ∙ ap (λ (bs : List ℕ). bs ++ ended line) (so .text-is) ∙ joined-more ended [] (so .told) line;
       }
 
@@ -87,7 +78,7 @@ module _ (s : State) (file : List ℕ) {place count : ℕ} {text : List ℕ} {t 
       record {
         items = so .items;
         stop = stop;
-        read = read-stopped orders file orders-apart (so .read-to) same (of-stop _ stop got);
+        read = read-stopped orders file orders-apart (so .read-to) same (ordered-stop _ stop got);
         told = so .told;
         tells = so .tells;
         text-is =
