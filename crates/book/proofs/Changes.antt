@@ -8,8 +8,8 @@ use lib.ListN.{length, getD, set, take, drop, length-append, length-take, length
 use lib.Seq.{getD-set-same, getD-set-other}
 use Rattle.std.proofs.shelf.Tests.{cases-eq}
 use Rattle.std.specs.Holes.{removed}
-use Rattle.book.specs.declared.row.Row.{Row}
-use Rattle.book.specs.Links.{Keeps-rule, blank}
+use Rattle.mesh.specs.declared.row.Row.{Row}
+use Rattle.mesh.specs.Links.{Keeps-rule, blank}
 use Rattle.book.specs.History.{resized}
 use Rattle.book.specs.Books.{All-ruled}
 

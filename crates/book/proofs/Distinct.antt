@@ -14,8 +14,8 @@ use Rattle.std.proofs.shelf.Edits.{length-removed, getD-removed-below, getD-rem
 use Rattle.std.proofs.shelf.Tests.{cases-eq, cases-lt}
 use Rattle.std.proofs.shelf.Ways.{tells}
 use Rattle.std.specs.Holes.{removed}
-use Rattle.book.specs.declared.row.Row.{Row}
-use Rattle.book.specs.Links.{blank}
+use Rattle.mesh.specs.declared.row.Row.{Row}
+use Rattle.mesh.specs.Links.{blank}
 use Rattle.book.specs.History.{linked, resized}
 use Rattle.book.specs.Books.{No-pair-twice}
 

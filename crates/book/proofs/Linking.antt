@@ -8,9 +8,9 @@ use lib.Dec.{eqb}
 use lib.ListN.{length, getD, drop}
 use lib.Seq.{drop-cons}
 use borrow.Author.Tests.{eq-eqb, ne-eqb}
-use Rattle.book.specs.declared.row.Row.{Row}
+use Rattle.mesh.specs.declared.row.Row.{Row}
 use Rattle.book.specs.History.{linked}
-use Rattle.book.specs.Links.{blank}
+use Rattle.mesh.specs.Links.{blank}
 
 -- what is left from place i on: the row there, or the rest
 here : (rows : List Row) (i low high : ℕ) → i < length rows →

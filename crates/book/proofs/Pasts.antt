@@ -16,10 +16,10 @@ use Rattle.std.specs.declared.option.Option.the-variants.{Some, None}
 use Rattle.std.specs.declared.result.Result.{Result}
 use Rattle.std.specs.declared.result.Result.the-variants.{Ok, Err}
 use Rattle.flow.specs.declared.pairs.Pairs.{Pairs}
-use Rattle.book.specs.declared.row.Row.{Row}
+use Rattle.mesh.specs.declared.row.Row.{Row}
 use Rattle.book.specs.declared.book.Book.{Book}
-use Rattle.book.specs.declared.fault.Fault.{Fault}
-use Rattle.book.specs.Links.{Keeps-rule, between}
+use Rattle.mesh.specs.declared.fault.Fault.{Fault}
+use Rattle.mesh.specs.Links.{Keeps-rule, between}
 use Rattle.book.specs.History.{State, opened, Call, refusal, Step, Stays, Run, Past, added, taken, counted, linked}
 use Rattle.book.specs.History.Call.{Add, Resize, Drop, Name}
 use Rattle.book.specs.History.Run.{still, more}

@@ -6,9 +6,9 @@ use lib.ListN.{length, getD}
 use Rattle.std.specs.declared.option.Option.{Option}
 use Rattle.std.specs.declared.option.Option.the-variants.{Some}
 use Rattle.flow.specs.declared.pairs.Pairs.{Pairs}
-use Rattle.book.specs.declared.row.Row.{Row}
+use Rattle.mesh.specs.declared.row.Row.{Row}
 use Rattle.book.specs.declared.book.Book.{Book}
-use Rattle.book.specs.Links.{Keeps-rule}
+use Rattle.mesh.specs.Links.{Keeps-rule}
 use Rattle.book.specs.History.{State}
 use Rattle.book.specs.Ledgers.{seen}
 

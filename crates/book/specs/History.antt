@@ -12,12 +12,12 @@ use Rattle.std.specs.declared.option.Option.the-variants.{Some, None}
 use Rattle.std.specs.declared.result.Result.{Result}
 use Rattle.std.specs.declared.result.Result.the-variants.{Ok, Err}
 use Rattle.flow.specs.declared.pairs.Pairs.{Pairs}
-use Rattle.book.specs.declared.row.Row.{Row}
+use Rattle.mesh.specs.declared.row.Row.{Row}
 use Rattle.book.specs.declared.trial.Trial.{Trial}
-use Rattle.book.specs.declared.fault.Fault.{Fault}
-use Rattle.book.specs.declared.fault.Fault.the-variants.{TrialStands, Cabinet, Ends, Slots, Linked, Full, NoLink}
-use Rattle.book.specs.Faults.{refuse-if}
-use Rattle.book.specs.Links.{between, blank, bad-slots}
+use Rattle.mesh.specs.declared.fault.Fault.{Fault}
+use Rattle.mesh.specs.declared.fault.Fault.the-variants.{TrialStands, Cabinet, Ends, Slots, Linked, Full, NoLink}
+use Rattle.mesh.specs.Faults.{refuse-if}
+use Rattle.mesh.specs.Links.{between, blank, bad-slots}
 use Rattle.book.specs.Plans.{Plan}
 
 -- what a book is at one moment: its links in order, the streams' pairs if named, the trial that stands and the plan that is held, if any

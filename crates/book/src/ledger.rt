@@ -2,9 +2,9 @@ ghost use mathlib.Core.Path.{_≡_};
 ghost use Prim.Native.Nat.{_≤_};
 ghost use Rattle.std.specs.Of.Vec.{vec-len, vec-cap};
 use crate::plan::Sides;
-use crate::row::Row;
 use crate::trial::Trial;
 use flow::pairs::Pairs;
+use mesh::row::Row;
 
 // What a book holds. A held plan has its shares at the front of `one` and `two`,
 // which are as long as a book may have links. All memory is taken when it is opened.

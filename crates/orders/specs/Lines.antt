@@ -3,9 +3,9 @@ use mathlib.Core.List.{List, [], _∷_, _++_}
 use Prim.Native.Nat.{ℕ}
 use lib.Chars.{codes}
 use Rattle.std.specs.Written.{decimal}
-use Rattle.book.specs.declared.fault.Layer.{Layer}
-use Rattle.book.specs.declared.fault.Layer.the-variants.{Order, Book}
-use Rattle.book.specs.Faults.{number, layer}
+use Rattle.mesh.specs.declared.fault.Layer.{Layer}
+use Rattle.mesh.specs.declared.fault.Layer.the-variants.{Order, Book}
+use Rattle.mesh.specs.Faults.{number, layer}
 use Rattle.orders.specs.declared.kind.Kind.{Kind}
 use Rattle.orders.specs.declared.line.Line.{Line}
 use Rattle.orders.specs.declared.line.Line.the-variants.{Done, Refused, Unplanned, End, Unread, TooLong}

@@ -8,7 +8,7 @@ use Rattle.std.specs.Orderings.{When}
 use Rattle.std.specs.shelf.Lists.{joined}
 use Rattle.std.specs.declared.result.Result.{Result}
 use Rattle.std.specs.declared.result.Result.the-variants.{Ok, Err}
-use Rattle.book.specs.declared.fault.Fault.{Fault}
+use Rattle.mesh.specs.declared.fault.Fault.{Fault}
 use Rattle.book.specs.History.{State, Call, Step}
 use Rattle.book.specs.History.Call.{Add as add-call, Resize as resize-call, Drop as drop-call, Name as name-call}
 use Rattle.orders.specs.declared.kind.Kind.{Kind}

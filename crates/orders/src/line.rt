@@ -6,8 +6,8 @@ ghost use Rattle.std.specs.declared.option.Option.the-variants.{Some};
 ghost use Rattle.orders.specs.Lines.{mark-text, layer-text, spelled, ended};
 use crate::kind::Kind;
 use crate::record::RecordFault;
-use book::fault::Fault;
-use book::fault::Layer;
+use mesh::fault::Fault;
+use mesh::fault::Layer;
 use std::alloc::AllocError;
 use std::fmt;
 

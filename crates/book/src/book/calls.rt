@@ -4,9 +4,9 @@ ghost use Rattle.book.specs.History.{Step, Stays, opened};
 ghost use Rattle.book.specs.History.Call.{Add, Resize, Drop, Name};
 ghost use Rattle.book.specs.Books.{view};
 use crate::book::Book;
-use crate::fault::Fault;
 use crate::ledger::Ledger;
 use flow::pairs::Pairs;
+use mesh::fault::Fault;
 use std::alloc::AllocError;
 use std::alloc::Global;
 

@@ -1,8 +1,8 @@
 ghost use mathlib.Core.Path.{_≡_};
 ghost use Rattle.book.specs.Books.{view, Sound};
 use crate::book::Book;
-use crate::row::Row;
 use flow::pairs::Pairs;
+use mesh::row::Row;
 
 impl Book {
     // The links in order, each of which keeps the rule of a link.

@@ -4,13 +4,13 @@ ghost use Rattle.std.specs.Of.Vec.{vec-items, vec-len};
 ghost use Rattle.book.specs.History.{Step, Stays, opened, linked};
 ghost use Rattle.book.specs.History.Call.{Add, Resize, Drop, Name};
 ghost use Rattle.book.specs.Ledgers.{seen};
-use crate::fault::Fault;
 use crate::ledger::Ledger;
-use crate::link::Link;
-use crate::link::make::LAST_CABINET;
-use crate::link::make::bad_slots;
-use crate::row::Row;
 use flow::pairs::Pairs;
+use mesh::fault::Fault;
+use mesh::link::Link;
+use mesh::link::make::LAST_CABINET;
+use mesh::link::make::bad_slots;
+use mesh::row::Row;
 use std::alloc::AllocError;
 use std::alloc::Global;
 

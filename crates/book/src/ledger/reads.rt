@@ -1,8 +1,8 @@
 ghost use mathlib.Core.Path.{_≡_};
 ghost use Rattle.book.specs.Ledgers.{seen};
 use crate::ledger::Ledger;
-use crate::row::Row;
 use flow::pairs::Pairs;
+use mesh::row::Row;
 
 impl Ledger {
     pub(crate) fn links(&self) -> &[Row]

@@ -1,7 +1,7 @@
 use mathlib.Core.Path.{refl, sym, ap, _∙_}
 use mathlib.Core.List.{List}
 use Rattle.std.proofs.shelf.Lists.{drop-all}
-use Rattle.book.specs.declared.row.Row.{Row}
+use Rattle.mesh.specs.declared.row.Row.{Row}
 use Rattle.book.specs.History.{linked}
 use Rattle.book.proofs.Linking.{hit, miss-low, miss-high}
 use Rattle.book.proofs.ledger.Ledger.linked.Needs as need

@@ -6,12 +6,12 @@ use Rattle.std.specs.declared.option.Option.{Option}
 use Rattle.std.specs.declared.option.Option.the-variants.{Some, None}
 use Rattle.std.specs.declared.result.Result.{Result}
 use Rattle.std.specs.declared.result.Result.the-variants.{Ok, Err}
-use Rattle.book.specs.declared.row.Row.{Row}
-use Rattle.book.specs.declared.link.Link.{Link}
-use Rattle.book.specs.declared.fault.Fault.{Fault}
-use Rattle.book.specs.declared.fault.Fault.the-variants.{Cabinet, Ends, Slots}
-use Rattle.book.specs.Faults.{refuse-if}
-use Rattle.book.specs.Links.{bad-slots}
+use Rattle.mesh.specs.declared.row.Row.{Row}
+use Rattle.mesh.specs.declared.link.Link.{Link}
+use Rattle.mesh.specs.declared.fault.Fault.{Fault}
+use Rattle.mesh.specs.declared.fault.Fault.the-variants.{Cabinet, Ends, Slots}
+use Rattle.mesh.specs.Faults.{refuse-if}
+use Rattle.mesh.specs.Links.{bad-slots}
 
 -- the numbers of a link
 abbrev pub as-row : Link → Row

@@ -3,7 +3,7 @@ use mathlib.Core.Path.{_≡_}
 use mathlib.Core.Bool.{Bool, not, _||_}
 use Prim.Native.Nat.{ℕ, _≤_, _<_, _%_, min, max}
 use lib.Dec.{eqb, ltb}
-use Rattle.book.specs.declared.row.Row.{Row}
+use Rattle.mesh.specs.declared.row.Row.{Row}
 
 -- the row between two cabinets, the lower first
 abbrev pub between : ℕ → ℕ → ℕ → Row

@@ -1,5 +1,5 @@
 ghost use mathlib.Core.Path.{_≡_};
-ghost use Rattle.book.specs.Faults.{number, place, layer};
+ghost use Rattle.mesh.specs.Faults.{number, place, layer};
 use crate::fault::Fault;
 use crate::fault::Layer;
 

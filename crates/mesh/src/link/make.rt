@@ -1,6 +1,6 @@
 ghost use mathlib.Core.Path.{_≡_};
-ghost use Rattle.book.specs.Links.{bad-slots};
-ghost use Rattle.book.specs.Made.{Makes, as-row};
+ghost use Rattle.mesh.specs.Links.{bad-slots};
+ghost use Rattle.mesh.specs.Made.{Makes, as-row};
 use crate::fault::Fault;
 use crate::link::Link;
 use crate::row::Row;

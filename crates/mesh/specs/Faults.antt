@@ -3,10 +3,10 @@ use Prim.Native.Nat.{ℕ}
 use mathlib.Core.Bool.{Bool, cond}
 use Rattle.std.specs.declared.option.Option.{Option}
 use Rattle.std.specs.declared.option.Option.the-variants.{Some}
-use Rattle.book.specs.declared.fault.Fault.{Fault}
-use Rattle.book.specs.declared.fault.Fault.the-variants.{TrialStands, Cabinet, Ends, Slots, Linked, Full, NoLink}
-use Rattle.book.specs.declared.fault.Layer.{Layer}
-use Rattle.book.specs.declared.fault.Layer.the-variants.{Order, Book}
+use Rattle.mesh.specs.declared.fault.Fault.{Fault}
+use Rattle.mesh.specs.declared.fault.Fault.the-variants.{TrialStands, Cabinet, Ends, Slots, Linked, Full, NoLink}
+use Rattle.mesh.specs.declared.fault.Layer.{Layer}
+use Rattle.mesh.specs.declared.fault.Layer.the-variants.{Order, Book}
 
 -- the number of a fault
 abbrev pub number : Fault → ℕ

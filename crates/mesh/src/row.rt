@@ -1,5 +1,5 @@
 ghost use mathlib.Core.Path.{_≡_};
-ghost use Rattle.book.specs.Links.{between};
+ghost use Rattle.mesh.specs.Links.{between};
 
 // A link as the book's list holds it: plain numbers. A cabinet is a number below 64,
 // and slots are the shares of radio time that a link has to give.
