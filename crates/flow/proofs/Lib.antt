@@ -9,3 +9,4 @@ pub mod Planning
 pub mod Drawing
 pub mod Changing
 pub mod Deciding
+pub mod Steps
