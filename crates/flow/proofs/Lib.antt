@@ -10,3 +10,5 @@ pub mod Drawing
 pub mod Changing
 pub mod Deciding
 pub mod Steps
+pub mod Trims
+pub mod Maps

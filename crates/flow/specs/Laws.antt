@@ -11,12 +11,14 @@ use Rattle.std.specs.Holes.{removed}
 use Rattle.std.specs.Slices.{Shuffled}
 use Rattle.std.specs.Orderings.{Decides}
 use Rattle.flow.specs.declared.pairs.Pairs.{Pairs}
+use Rattle.flow.specs.declared.taps.Taps.{Taps}
 use Rattle.flow.specs.Ranges.{cabinets, most-fed}
 use Rattle.flow.specs.Nets.{only, xor, sum-below, total, leaving, net, crosses, side-slots, Inside}
 use Rattle.flow.specs.Plans.{Proper, FirstSide, SumSide, total-one, total-two, sum-of, Feasible, Fractional, Held, Best}
-use Rattle.flow.specs.Answers.{Within, fed}
+use Rattle.flow.specs.Answers.{Within, Answer, Solves, fed}
 use Rattle.flow.specs.Drawings.{Doubled, Halved, turned, Carries, Same-side, Drawn}
 use Rattle.flow.specs.Nearness.{Near}
+use Rattle.flow.specs.Trimming.{trimmed, dealt}
 use Rattle.flow.specs.Tests.{is-first-side, is-sum-side, is-feasible, is-held}
 
 module _ {X : Type 0} (low high capacity : X → ℕ) where
@@ -74,3 +76,7 @@ module _ {X : Type 0} (low high capacity : X → ℕ) where
   -- each computed test decides its definition
   abbrev pub Tests-decide : Type 0
   Tests-decide = (p : Pairs) (ls : List X) (fs gs : List ℤ) (cut first : ℕ → Bool) → Decides (is-feasible low high capacity cabinets p ls fs gs) (Feasible low high capacity cabinets p ls fs gs) × Decides (is-sum-side p cut) (SumSide p cut) × Decides (is-first-side p first) (FirstSide p first) × Decides (is-held low high capacity cabinets p ls fs gs cut first) (Held low high capacity cabinets p ls fs gs cut first)
+
+  -- an answer for the links with a limit above 0, with flow 0 for the others, is an answer for all links
+  abbrev pub Trim-answers : Type 0
+  Trim-answers = (ls : List X) (at most : Taps ℕ) (r : Answer) (more : List ℤ) → Solves low high capacity cabinets (trimmed capacity ls) at most r → Solves low high capacity cabinets ls at most (record { flow = dealt capacity ls (r .flow) ++ more; amount = r .amount; side = r .side })

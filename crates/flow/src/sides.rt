@@ -1,4 +1,5 @@
 // Sides: sets of cabinets, given as a list that says yes or no for each in turn.
+ghost use mathlib.Core.Bool.{cond};
 ghost use mathlib.Core.Path.{_≡_};
 ghost use Prim.Native.Nat.{ℕ, _≤_};
 ghost use lib.ListN.{length};
@@ -23,6 +24,13 @@ pub fn is_cut<E: Edge>(link: &E, side: &[bool]) -> bool
     holds(side, link.low()) != holds(side, link.high())
 }
 
+// What the link adds to the slots of the side: all its slots, or none.
+fn cut_slots<E: Edge>(link: &E, side: &[bool]) -> u32
+    ensures { λ r. ⌜ r ≡ cond (crosses (E·Edge .low) (E·Edge .high) (members (now (side .entry))) (now (link .entry))) (E·Edge .capacity (now (link .entry))) 0 ⌝ }
+{
+    if is_cut(link, side) { link.capacity() } else { 0 }
+}
+
 // The slots of a side: those of all links with just one end in it.
 pub fn side_slots<E: Edge>(links: &[E], side: &[bool]) -> u64
     requires { ⌜ length (now links) ≤ most-links ⌝ }
@@ -30,9 +38,7 @@ pub fn side_slots<E: Edge>(links: &[E], side: &[bool]) -> u64
 {
     let mut sum = 0;
     for link in links {
-        if is_cut(link, side) {
-            sum += u64::from(link.capacity());
-        }
+        sum += u64::from(cut_slots(link, side));
     }
     sum
 }
