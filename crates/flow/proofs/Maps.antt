@@ -48,5 +48,5 @@ module _ {X Y : Type 0} (g : X → Y) where
           within = within-mapped ls (r .flow) (s .within);
           amounts = s .amounts;
           balanced = λ v k. sym (leaving-mapped (λ u. eqb u v) ls (r .flow)) ∙ s .balanced v k;
-          full = s .full ∙ ap (λ k. (cond (r .side (at .feed1)) 0 (most .feed1) + cond (r .side (at .feed2)) 0 (most .feed2)) + k + (cond (r .side (at .drain1)) (most .drain1) 0 + cond (r .side (at .drain2)) (most .drain2) 0)) (slots-mapped (r .side) ls)
+          full = s .full ∙ ap (λ k. (cond (r .side (at .feed1)) 0 (most .feed1) + cond (r .side (at .feed2)) 0 (most .feed2)) + k + (cond (r .side (at .drain1)) (most .drain1) 0 + cond (r .side (at .drain2)) (most .drain2) 0)) (slots-mapped (r .side) ls);
         }

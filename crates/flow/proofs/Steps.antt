@@ -25,6 +25,9 @@ link-add true false x y r = omega (arith, whole)
 link-add false true x y r = omega (arith, whole)
 link-add false false x y r = omega (arith, whole)
 
+pos-add : (x y : ℤ) (a b : ℕ) → x ≡ pos a → y ≡ pos b → x +ℤ y ≡ pos (a + b)
+pos-add x y a b e f = omega (arith, whole)
+
 module _ {X : Type 0} (low high : X → ℕ) where
   more : (S : ℕ → Bool) (ls : List X) (fs : List ℤ) (i : ℕ) (d : X) → i < length ls → leaving low high S (take (suc i) ls) fs ≡ leaving low high S (take i ls) fs +ℤ (only (S (low (getD ls i d))) (getD fs i (pos 0)) -ℤ only (S (high (getD ls i d))) (getD fs i (pos 0)))
   more S [] fs i d h = absurd (omega arith)
@@ -48,6 +51,12 @@ module _ {X : Type 0} (low high : X → ℕ) where
   leaving-set S (x ∷ ls) (f ∷ fs) zero y d h q = link-add (S (low x)) (S (high x)) f y (leaving low high S ls fs)
   leaving-set S (x ∷ ls) (f ∷ fs) (suc k) y d h q =
       past (leaving low high S ls fs) _ _ (only (S (low x)) f -ℤ only (S (high x)) f) (leaving-set S ls fs k y d (omega arith) (omega arith))
+
+  -- as much as its slots leaves a side where each link that crosses it is full outward
+  pub leaving-full : (limit : X → ℕ) (S : ℕ → Bool) (d : X) (ls : List X) (fs : List ℤ) → ((k : ℕ) → k < length ls → only (S (low (getD ls k d))) (getD fs k (pos 0)) -ℤ only (S (high (getD ls k d))) (getD fs k (pos 0)) ≡ pos (cond (crosses low high S (getD ls k d)) (limit (getD ls k d)) 0)) → leaving low high S ls fs ≡ pos (side-slots low high limit S ls)
+  leaving-full limit S d [] fs w = refl
+  leaving-full limit S d (l ∷ ls) fs w =
+      pos-add _ _ _ _ (w 0 (omega arith)) (leaving-full limit S d ls (after fs) (λ k h. ap (λ x. only (S (low (getD ls k d))) x -ℤ only (S (high (getD ls k d))) x) (after-at fs k) ∙ w (suc k) (omega arith)))
 
 -- a write within the link's limit keeps the limits
 pub within-set : {X : Type 0} (limit : X → ℕ) (ls : List X) (fs : List ℤ) (k : ℕ) (x : ℤ) (d : X) → k < length fs → Within limit ls fs → natAbs x ≤ limit (getD ls k d) → Within limit ls (set fs k x)

@@ -105,5 +105,5 @@ trim-solves low high limit n ls at most r more s =
       within = dealt-within limit ls (r .flow) more (s .within);
       amounts = s .amounts;
       balanced = λ v k. dealt-leaving low high limit (λ u. eqb u v) ls (r .flow) more ∙ s .balanced v k;
-      full = s .full ∙ ap (λ k. (cond (r .side (at .feed1)) 0 (most .feed1) + cond (r .side (at .feed2)) 0 (most .feed2)) + k + (cond (r .side (at .drain1)) (most .drain1) 0 + cond (r .side (at .drain2)) (most .drain2) 0)) (trimmed-slots low high limit (r .side) ls)
+      full = s .full ∙ ap (λ k. (cond (r .side (at .feed1)) 0 (most .feed1) + cond (r .side (at .feed2)) 0 (most .feed2)) + k + (cond (r .side (at .drain1)) (most .drain1) 0 + cond (r .side (at .drain2)) (most .drain2) 0)) (trimmed-slots low high limit (r .side) ls);
     }

@@ -4,7 +4,7 @@ use mathlib.Core.List.{List, [], _∷_, _++_}
 use mathlib.Core.Bool.{Bool, true, _&&_, _||_, not}
 use mathlib.Core.Logic.{_⊎_}
 use Prim.Native.Nat.{ℕ, _+_, _*_, _-_, _≤_, _<_, max}
-use lib.IntN.{ℤ, pos, natAbs}
+use lib.IntN.{ℤ, pos, _+ℤ_, natAbs}
 use lib.Signed.{_≤ℤ_}
 use lib.ListN.{length, getD, set}
 use Rattle.std.specs.Holes.{removed}
@@ -69,9 +69,13 @@ module _ {X : Type 0} (low high capacity : X → ℕ) where
     pub dropped : (ls : List X) (k : ℕ) (d : X) → k < length ls → Near (side-slots low high capacity S ls) (side-slots low high capacity S (removed ls k)) 0 (capacity (getD ls k d))
     pub renumbered : (ls ms : List X) → Shuffled ls ms → Near (side-slots low high capacity S ls) (side-slots low high capacity S ms) 0 0
 
-  -- each change moves the slots of every side by at most what it adds and takes
+  -- each change moves the slots of every side by at most what it adds and takes, and what changes in turn add and take adds up
   abbrev pub Slots-change : Type 0
-  Slots-change = (S : ℕ → Bool) → Changes S
+  Slots-change = ((S : ℕ → Bool) → Changes S) × ((x : ℕ) → Near x x 0 0) × ((x y z a k b l : ℕ) → Near x y a k → Near y z b l → Near x z (a + b) (k + l))
+
+  -- so do the sums and the totals 1 of plans that are held for the same pairs, where the slots of every side do
+  abbrev pub Sums-near : Type 0
+  Sums-near = (p : Pairs) (ls ms : List X) (fs gs hs ks : List ℤ) (cut first cut′ first′ : ℕ → Bool) (added taken : ℕ) → Inside low high cabinets ls → Inside low high cabinets ms → Proper cabinets p → ((S : ℕ → Bool) → Near (side-slots low high capacity S ls) (side-slots low high capacity S ms) added taken) → Held low high capacity cabinets p ls fs gs cut first → Held low high capacity cabinets p ms hs ks cut′ first′ → (sum-of low high p ms hs ks ≤ℤ (sum-of low high p ls fs gs +ℤ pos added)) × (sum-of low high p ls fs gs ≤ℤ (sum-of low high p ms hs ks +ℤ pos taken)) × (total-one low high p ms hs ≤ℤ (total-one low high p ls fs +ℤ pos added)) × (total-one low high p ls fs ≤ℤ (total-one low high p ms hs +ℤ pos taken))
 
   -- each computed test decides its definition
   abbrev pub Tests-decide : Type 0

@@ -2,6 +2,7 @@
 pub mod edge;
 pub mod nets;
 pub mod pairs;
+pub mod shares;
 pub mod sides;
 pub mod taps;
 pub mod theorems;

@@ -28,7 +28,11 @@ pub fn is_cut<E: Edge>(link: &E, side: &[bool]) -> bool
 fn cut_slots<E: Edge>(link: &E, side: &[bool]) -> u32
     ensures { λ r. ⌜ r ≡ cond (crosses (E·Edge .low) (E·Edge .high) (members (now (side .entry))) (now (link .entry))) (E·Edge .capacity (now (link .entry))) 0 ⌝ }
 {
-    if is_cut(link, side) { link.capacity() } else { 0 }
+    if is_cut(link, side) {
+        link.capacity()
+    } else {
+        0
+    }
 }
 
 // The slots of a side: those of all links with just one end in it.
