@@ -1,0 +1,7 @@
+pub mod Rings
+pub mod Meshes
+pub mod Entered
+pub mod Rounds
+pub mod Begins
+pub mod Chains
+pub mod Partings

@@ -1,0 +1,5 @@
+pub mod Rings
+pub mod Queues
+pub mod Graphs
+pub mod Paths
+pub mod Spreads

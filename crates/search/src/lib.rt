@@ -1,0 +1,6 @@
+// A first-in-first-out queue, an index of incident links, and one search for every ground.
+pub mod find;
+pub mod ground;
+pub mod marks;
+pub mod queue;
+mod spread;
