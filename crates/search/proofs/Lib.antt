@@ -5,3 +5,4 @@ pub mod Rounds
 pub mod Begins
 pub mod Chains
 pub mod Partings
+pub mod Fillings

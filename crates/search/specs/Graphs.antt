@@ -4,6 +4,7 @@ use mathlib.Core.Path.{_≡_}
 use mathlib.Core.Bool.{Bool, true, cond, _||_}
 use mathlib.Core.List.{List}
 use lib.Dec.{eqb}
+use lib.ListN.{length, getD}
 use Rattle.std.specs.Iters.{counting}
 use Rattle.std.specs.shelf.Lists.{kept-by}
 
@@ -12,6 +13,14 @@ pub record Mesh : Type 0 where
   pub links : ℕ
   pub first : ℕ → ℕ
   pub second : ℕ → ℕ
+
+-- The mesh of a list of links, by what tells their two ends; `none` stands where the list has no link.
+abbrev pub meshOf : {T : Type 0} → (T → ℕ) → (T → ℕ) → T → List T → Mesh
+meshOf first second none links = record {
+  links = length links;
+  first = λ l. first (getD links l none);
+  second = λ l. second (getD links l none);
+}
 
 -- There are at most 512 links, and each joins two different cabinets below 64.
 pub record Lawful (m : Mesh) : Type 0 where

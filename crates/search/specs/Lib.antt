@@ -1,5 +1,6 @@
 pub mod Rings
 pub mod Queues
 pub mod Graphs
+pub mod Rows
 pub mod Paths
 pub mod Spreads

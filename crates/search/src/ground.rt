@@ -3,13 +3,7 @@ ghost use mathlib.Core.Path.{_≡_};
 ghost use Prim.Native.Nat.{_<_};
 ghost use denote.Ref.{now};
 ghost use Rattle.search.specs.Graphs.{Graph, Lawful, incident};
-
-// The two cabinets that a link joins. (A cabinet is a node of the mesh, numbered below 64.)
-#[derive(Clone, Copy)]
-pub struct Ends {
-    pub first: u8,
-    pub second: u8,
-}
+use crate::links::Ends;
 
 // Links between cabinets, and which steps over them are open. To ask alters nothing.
 pub trait Ground {

@@ -1,6 +1,9 @@
 // A first-in-first-out queue, an index of incident links, and one search for every ground.
+mod build;
 pub mod find;
 pub mod ground;
+pub mod incidence;
+pub mod links;
 pub mod marks;
 pub mod queue;
 mod spread;
