@@ -6,3 +6,5 @@ pub mod Begins
 pub mod Chains
 pub mod Partings
 pub mod Fillings
+pub mod Once
+pub mod RowLaws

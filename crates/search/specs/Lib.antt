@@ -4,3 +4,5 @@ pub mod Graphs
 pub mod Rows
 pub mod Paths
 pub mod Spreads
+pub mod Incidences
+pub mod Laws

@@ -3,6 +3,7 @@ mod build;
 pub mod find;
 pub mod ground;
 pub mod incidence;
+pub mod laws;
 pub mod links;
 pub mod marks;
 pub mod queue;
