@@ -1,5 +1,5 @@
 -- The rule of a link through the changes of a list of links.
-use mathlib.Core.Path.{_≡_, refl, sym, subst}
+use mathlib.Core.Path.{_≡_, refl, sym, ap, subst}
 use mathlib.Core.List.{List, [], _∷_, _++_}
 use mathlib.Core.Logic.{_⊎_, inl, inr}
 use Prim.Native.Nat.{ℕ, zero, suc, _≤_, _<_, _%_}
@@ -10,7 +10,7 @@ use Rattle.std.proofs.shelf.Tests.{cases-eq}
 use Rattle.std.specs.Holes.{removed}
 use Rattle.mesh.specs.declared.row.Row.{Row}
 use Rattle.mesh.specs.Links.{Keeps-rule, blank}
-use Rattle.book.specs.History.{resized}
+use Rattle.book.specs.History.{resized, slots-of}
 use Rattle.book.specs.Books.{All-ruled}
 
 pub ruled-push : (rows : List Row) (r : Row) → All-ruled rows → Keeps-rule r → All-ruled (rows ++ (r ∷ []))
@@ -52,3 +52,7 @@ few-resize rows l n h = omega (arith, length-set rows l (record { low = getD row
 
 pub few-remove : (rows : List Row) (l : ℕ) → length rows ≤ 512 → length (removed rows l) ≤ 512
 few-remove rows l h = omega (arith, length-append (take l rows) (drop (suc l) rows), length-take l rows, length-drop (suc l) rows)
+
+-- a link without slots is still there
+pub emptied : (rows : List Row) (l : ℕ) → l < length rows → (l < length (resized rows l 0)) × (slots-of (resized rows l 0) l ≡ 0)
+emptied rows l h = (simp length-set h, ap (λ (r : Row). r .slots) (getD-set-same rows l _ blank h))

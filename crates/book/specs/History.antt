@@ -1,6 +1,6 @@
 -- What follows from the calls alone: the state after each, what a call is refused for, and what it does.
 use mathlib.Core.Path.{_≡_}
-use mathlib.Core.Bool.{Bool, true, false, cond, _&&_, _||_}
+use mathlib.Core.Bool.{Bool, true, false, cond, not, _&&_, _||_}
 use mathlib.Core.List.{List, [], _∷_, _++_}
 use Prim.Native.Nat.{ℕ, _≤_, _<_, _+_, _-_, min, max}
 use lib.Dec.{eqb, leb, ltb}
@@ -15,7 +15,7 @@ use Rattle.flow.specs.declared.pairs.Pairs.{Pairs}
 use Rattle.mesh.specs.declared.row.Row.{Row}
 use Rattle.book.specs.declared.trial.Trial.{Trial}
 use Rattle.mesh.specs.declared.fault.Fault.{Fault}
-use Rattle.mesh.specs.declared.fault.Fault.the-variants.{TrialStands, Cabinet, Ends, Slots, Linked, Full, NoLink}
+use Rattle.mesh.specs.declared.fault.Fault.the-variants.{TrialStands, Cabinet, Ends, Slots, Linked, Full, NoLink, NoTrial}
 use Rattle.mesh.specs.Faults.{refuse-if}
 use Rattle.mesh.specs.Links.{between, blank, bad-slots}
 use Rattle.book.specs.Plans.{Plan}
@@ -40,6 +40,8 @@ pub data Call : Type 0 where
   Resize : ℕ → ℕ → Call
   Drop : ℕ → Call
   Name : Pairs → Call
+  Begin : ℕ → Call
+  Close : Trial → Call
 
 -- the slots of a link
 abbrev pub slots-of : List Row → ℕ → ℕ
@@ -62,6 +64,15 @@ off-mesh p = ltb 63 (p .source1) || (ltb 63 (p .goal1) || (ltb 63 (p .source2) |
 abbrev pub closed-pair : Pairs → Bool
 closed-pair p = eqb (p .source1) (p .goal1) || eqb (p .source2) (p .goal2)
 
+-- whether two trials have the same numbers
+abbrev pub same-trial : Trial → Trial → Bool
+same-trial t u = eqb (t .link) (u .link) && eqb (t .slots) (u .slots)
+
+-- whether this trial does not stand
+abbrev pub not-standing : Option Trial → Trial → Bool
+not-standing None u = true
+not-standing (Some t) u = not (same-trial t u)
+
 -- the table of refusals: for each call its conditions in order, and the fault of the first that holds
 abbrev pub refusal : State → Call → Option Fault
 refusal s (Add a b n) =
@@ -81,6 +92,10 @@ refusal s (Drop l) =
 refusal s (Name p) =
     refuse-if (off-mesh p) Cabinet (
     refuse-if (closed-pair p) Ends None)
+refusal s (Begin l) =
+    refuse-if (isSome (s .trial)) TrialStands (
+    refuse-if (leb (length (s .rows)) l) NoLink None)
+refusal s (Close u) = refuse-if (not-standing (s .trial) u) NoTrial None
 
 -- what an accepted call does: each of these changes the mesh or the pairs, so it withdraws the plan
 abbrev pub Goes : State → Call → State → Type 0
@@ -88,6 +103,8 @@ Goes s (Add a b n) t = t ≡ state (s .rows ++ (between a b n ∷ [])) (s .pairs
 Goes s (Resize l n) t = t ≡ state (resized (s .rows) l n) (s .pairs) (s .trial) None
 Goes s (Drop l) t = t ≡ state (removed (s .rows) l) (s .pairs) (s .trial) None
 Goes s (Name p) t = t ≡ state (s .rows) (Some p) (s .trial) None
+Goes s (Begin l) t = t ≡ state (resized (s .rows) l 0) (s .pairs) (Some (record { link = l; slots = slots-of (s .rows) l })) None
+Goes s (Close u) t = t ≡ state (resized (s .rows) (u .link) (u .slots)) (s .pairs) None None
 
 -- one call: accepted where the table has no refusal, else refused with the table's first, and nothing is altered
 abbrev pub Step : State → Call → Result (Unit {0}) Fault → State → Type 0
@@ -99,12 +116,18 @@ abbrev pub Stays : {X : Type 0} → Result (Unit {0}) Fault → X → X → Type
 Stays (Ok _) before after = Unit {0}
 Stays (Err fault) before after = after ≡ before
 
+-- while a trial stands, its link is there
+abbrev pub Trial-there : State → Type 0
+Trial-there s = (t : Trial) → s .trial ≡ Some t → t .link < length (s .rows)
+
 -- the slots that an accepted call adds to the mesh
 abbrev pub added : State → Call → ℕ
 added s (Add a b n) = n
 added s (Resize l n) = n - slots-of (s .rows) l
 added s (Drop l) = 0
 added s (Name p) = 0
+added s (Begin l) = 0
+added s (Close u) = u .slots
 
 -- the slots that an accepted call takes from the mesh
 abbrev pub taken : State → Call → ℕ
@@ -112,6 +135,8 @@ taken s (Add a b n) = 0
 taken s (Resize l n) = slots-of (s .rows) l - n
 taken s (Drop l) = slots-of (s .rows) l
 taken s (Name p) = 0
+taken s (Begin l) = slots-of (s .rows) l
+taken s (Close u) = 0
 
 -- a refused call adds and takes nothing
 abbrev pub counted : Result (Unit {0}) Fault → ℕ → ℕ

@@ -2,3 +2,4 @@ pub mod Plans
 pub mod History
 pub mod Ledgers
 pub mod Books
+pub mod Receipts

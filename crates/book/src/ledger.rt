@@ -24,3 +24,4 @@ pub(crate) struct Ledger {
 
 pub(crate) mod calls;
 pub(crate) mod reads;
+pub(crate) mod trials;

@@ -8,6 +8,7 @@ pub enum Fault {
     Linked,
     Full,
     NoLink,
+    NoTrial,
 }
 
 // The place of check that a fault names.

@@ -1,10 +1,13 @@
 ghost use mathlib.Core.Path.{_≡_};
 ghost use Rattle.std.specs.Vec.{made};
 ghost use Rattle.book.specs.History.{Step, Stays, opened};
-ghost use Rattle.book.specs.History.Call.{Add, Resize, Drop, Name};
+ghost use Rattle.book.specs.History.Call.{Add, Resize, Drop, Name, Begin, Close};
 ghost use Rattle.book.specs.Books.{view};
+ghost use Rattle.book.specs.Receipts.{begun, closed, trial-of, Received, Handed-back};
 use crate::book::Book;
 use crate::ledger::Ledger;
+use crate::trial::Receipt;
+use crate::trial::Refused;
 use flow::pairs::Pairs;
 use mesh::fault::Fault;
 use std::alloc::AllocError;
@@ -49,5 +52,23 @@ impl Book {
         ensures stays { λ r. ⌜ Stays r (now (self .entry)) (now (self .exit)) ⌝ }
     {
         self.ledger.name(pairs)
+    }
+
+    // Begins an outage trial on a link: its slots become 0. The receipt has the link and its former slots.
+    pub fn begin(&mut self, link: u16) -> Result<Receipt, Fault>
+        ensures step { λ r. ⌜ Step (view (now (self .entry))) (Begin link) (begun r) (view (now (self .exit))) ⌝ }
+        ensures receipt { λ r. ⌜ Received link (view (now (self .entry))) r ⌝ }
+        ensures stays { λ r. ⌜ Stays (begun r) (now (self .entry)) (now (self .exit)) ⌝ }
+    {
+        self.ledger.begin(link)
+    }
+
+    // Closes the trial of a receipt: the slots are put back. A refused close hands the receipt back.
+    pub fn close(&mut self, receipt: Receipt) -> Result<(), Refused>
+        ensures step { λ r. ⌜ Step (view (now (self .entry))) (Close (trial-of receipt)) (closed r) (view (now (self .exit))) ⌝ }
+        ensures receipt { λ r. ⌜ Handed-back receipt r ⌝ }
+        ensures stays { λ r. ⌜ Stays (closed r) (now (self .entry)) (now (self .exit)) ⌝ }
+    {
+        self.ledger.close(receipt)
     }
 }

@@ -16,6 +16,7 @@ impl Fault {
             Fault::Linked => 25,
             Fault::Full => 26,
             Fault::NoLink => 27,
+            Fault::NoTrial => 29,
         }
     }
 
@@ -30,7 +31,8 @@ impl Fault {
             | Fault::Slots
             | Fault::Linked
             | Fault::Full
-            | Fault::NoLink => 0,
+            | Fault::NoLink
+            | Fault::NoTrial => 0,
         }
     }
 
@@ -40,7 +42,8 @@ impl Fault {
     {
         match self {
             Fault::Cabinet | Fault::Ends | Fault::Slots => Layer::Order,
-            Fault::TrialStands | Fault::Linked | Fault::Full | Fault::NoLink => Layer::Book,
+            Fault::TrialStands | Fault::Linked | Fault::Full | Fault::NoLink | Fault::NoTrial =>
+                Layer::Book,
         }
     }
 }
