@@ -33,7 +33,8 @@ impl Receipt {
     pub(crate) fn is_of(&self, trial: Trial) -> bool
         ensures { λ r. ⌜ r ≡ same-trial trial (trial-of (now (self .entry))) ⌝ }
     {
-        trial.link == self.link && trial.slots == self.slots
+        let Receipt { link, slots } = self;
+        trial.link == *link && trial.slots == *slots
     }
 
     // Spends the receipt.
