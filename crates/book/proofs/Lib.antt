@@ -2,3 +2,4 @@ mod Changes
 mod Distinct
 mod Linking
 mod Pasts
+mod Laws

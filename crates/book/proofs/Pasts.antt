@@ -26,7 +26,7 @@ use Rattle.book.specs.declared.book.Book.{Book}
 use Rattle.book.specs.declared.trial.Trial.{Trial}
 use Rattle.book.specs.Plans.{Plan}
 use Rattle.book.specs.History.{State, state, opened, Call, refusal, Step, Stays, Run, Past, added, taken, counted, linked, resized, slots-of, not-standing, Trial-there}
-use Rattle.book.specs.History.Call.{Add, Resize, Drop, Name, Begin, Close}
+use Rattle.book.specs.History.Call.{Add, Resize, Drop, Name, Begin, Close, Draw}
 use Rattle.book.specs.History.Run.{still, more}
 use Rattle.book.specs.Ledgers.{seen}
 use Rattle.book.specs.Books.{Sound, Standing}
@@ -67,7 +67,7 @@ resize-free s l n e = grind (arith, tells)
 drop-free : (s : State) (l : ℕ) → refusal s (Drop l) ≡ None → isSome (s .trial) ≡ false
 drop-free s l e = grind (arith, tells)
 
-drop-there : (s : State) (l : ℕ) → refusal s (Drop l) ≡ None → l < length (s .rows)
+pub drop-there : (s : State) (l : ℕ) → refusal s (Drop l) ≡ None → l < length (s .rows)
 drop-there s l e = grind (arith, tells)
 
 name-proper : (s : State) (p : Pairs) → refusal s (Name p) ≡ None → Proper cabinets p
@@ -83,7 +83,7 @@ name-proper s p e = record {
 begin-there : (s : State) (l : ℕ) → refusal s (Begin l) ≡ None → l < length (s .rows)
 begin-there s l e = grind (arith, tells)
 
-close-same : (s : State) (u : Trial) → refusal s (Close u) ≡ None → not-standing (s .trial) u ≡ false
+pub close-same : (s : State) (u : Trial) → refusal s (Close u) ≡ None → not-standing (s .trial) u ≡ false
 close-same s u e = grind (arith, tells)
 
 -- the trial that a receipt closes is the one that stands
@@ -92,10 +92,10 @@ same-trials None u e = let z : _≡_ {A = ℕ} 0 1 = cc in absurd (omega arith)
 same-trials (Some t) u e = (t, refl, grind (arith, tells), grind (arith, tells))
 
 -- what is in one option is what is in an equal one
-same-some : {X : Type 0} (x y : X) → _≡_ {A = Option X} (Some x) (Some y) → x ≡ y
+pub same-some : {X : Type 0} (x y : X) → _≡_ {A = Option X} (Some x) (Some y) → x ≡ y
 same-some x y e = cc
 
-none-is-none : {X : Type 0} (x : X) → _≡_ {A = Option X} None (Some x) → ⊥
+pub none-is-none : {X : Type 0} (x : X) → _≡_ {A = Option X} None (Some x) → ⊥
 none-is-none x e = let z : _≡_ {A = ℕ} 0 1 = cc in omega arith
 
 -- where no trial stands there is nothing to keep of one
@@ -152,12 +152,20 @@ step-sound s t (Close u) (Ok _) g h =
     let w = same-trials (s .trial) u (close-same s u (h .0)) in
     let f = g .standing (w .0) (w .1) in
     subst Sound (sym (h .1)) (resized-sound s (u .link) (u .slots) None g (subst (λ (n : ℕ). n % 2 ≡ 0) (w .3) (f .2)) (subst (λ (n : ℕ). n ≤ most-slots) (w .3) (f .3)) (free _ (s .pairs) None None refl))
+step-sound s t Draw (Ok _) g h =
+    subst Sound (sym (h .1 .4)) (record {
+      ruled = g .ruled;
+      single = g .single;
+      few = g .few;
+      proper = g .proper;
+      standing = g .standing;
+    })
 
-run-sound : {s : State} {a k : ℕ} {t : State} → Sound s → Run s a k t → Sound t
+pub run-sound : {s : State} {a k : ℕ} {t : State} → Sound s → Run s a k t → Sound t
 run-sound g still = g
 run-sound g (more {t = t} {u = u} c r run step) = step-sound t u c r (run-sound g run) step
 
-sound-opened : Sound opened
+pub sound-opened : Sound opened
 sound-opened = record {
   ruled = λ k d q. absurd (omega arith);
   single = λ j k d lt q. absurd (omega arith);

@@ -15,10 +15,10 @@ use Rattle.flow.specs.declared.pairs.Pairs.{Pairs}
 use Rattle.mesh.specs.declared.row.Row.{Row}
 use Rattle.book.specs.declared.trial.Trial.{Trial}
 use Rattle.mesh.specs.declared.fault.Fault.{Fault}
-use Rattle.mesh.specs.declared.fault.Fault.the-variants.{TrialStands, Cabinet, Ends, Slots, Linked, Full, NoLink, NoTrial}
+use Rattle.mesh.specs.declared.fault.Fault.the-variants.{TrialStands, Cabinet, Ends, Slots, Linked, Full, NoLink, Unnamed, NoTrial}
 use Rattle.mesh.specs.Faults.{refuse-if}
 use Rattle.mesh.specs.Links.{between, blank, bad-slots}
-use Rattle.book.specs.Plans.{Plan}
+use Rattle.book.specs.Plans.{Plan, Drawn-plan}
 
 -- what a book is at one moment: its links in order, the streams' pairs if named, the trial that stands and the plan that is held, if any
 pub record State : Type 0 where
@@ -42,6 +42,7 @@ pub data Call : Type 0 where
   Name : Pairs → Call
   Begin : ℕ → Call
   Close : Trial → Call
+  Draw : Call
 
 -- the slots of a link
 abbrev pub slots-of : List Row → ℕ → ℕ
@@ -96,8 +97,9 @@ refusal s (Begin l) =
     refuse-if (isSome (s .trial)) TrialStands (
     refuse-if (leb (length (s .rows)) l) NoLink None)
 refusal s (Close u) = refuse-if (not-standing (s .trial) u) NoTrial None
+refusal s Draw = refuse-if (not (isSome (s .pairs))) Unnamed None
 
--- what an accepted call does: each of these changes the mesh or the pairs, so it withdraws the plan
+-- what an accepted call does: one that changes the mesh or the pairs withdraws the plan, and a drawn plan is any that engines' answers make
 abbrev pub Goes : State → Call → State → Type 0
 Goes s (Add a b n) t = t ≡ state (s .rows ++ (between a b n ∷ [])) (s .pairs) (s .trial) None
 Goes s (Resize l n) t = t ≡ state (resized (s .rows) l n) (s .pairs) (s .trial) None
@@ -105,6 +107,7 @@ Goes s (Drop l) t = t ≡ state (removed (s .rows) l) (s .pairs) (s .trial) None
 Goes s (Name p) t = t ≡ state (s .rows) (Some p) (s .trial) None
 Goes s (Begin l) t = t ≡ state (resized (s .rows) l 0) (s .pairs) (Some (record { link = l; slots = slots-of (s .rows) l })) None
 Goes s (Close u) t = t ≡ state (resized (s .rows) (u .link) (u .slots)) (s .pairs) None None
+Goes s Draw t = (p : Pairs) × (h : Plan) × (s .pairs ≡ Some p) × Drawn-plan (s .rows) p h × (t ≡ state (s .rows) (s .pairs) (s .trial) (Some h))
 
 -- one call: accepted where the table has no refusal, else refused with the table's first, and nothing is altered
 abbrev pub Step : State → Call → Result (Unit {0}) Fault → State → Type 0
@@ -128,6 +131,7 @@ added s (Drop l) = 0
 added s (Name p) = 0
 added s (Begin l) = 0
 added s (Close u) = u .slots
+added s Draw = 0
 
 -- the slots that an accepted call takes from the mesh
 abbrev pub taken : State → Call → ℕ
@@ -137,6 +141,7 @@ taken s (Drop l) = slots-of (s .rows) l
 taken s (Name p) = 0
 taken s (Begin l) = slots-of (s .rows) l
 taken s (Close u) = 0
+taken s Draw = 0
 
 -- a refused call adds and takes nothing
 abbrev pub counted : Result (Unit {0}) Fault → ℕ → ℕ

@@ -3,3 +3,4 @@ pub mod History
 pub mod Ledgers
 pub mod Books
 pub mod Receipts
+pub mod Law

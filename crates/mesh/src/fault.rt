@@ -8,6 +8,7 @@ pub enum Fault {
     Linked,
     Full,
     NoLink,
+    Unnamed,
     NoTrial,
 }
 

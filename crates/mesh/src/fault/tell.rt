@@ -16,6 +16,7 @@ impl Fault {
             Fault::Linked => 25,
             Fault::Full => 26,
             Fault::NoLink => 27,
+            Fault::Unnamed => 28,
             Fault::NoTrial => 29,
         }
     }
@@ -32,6 +33,7 @@ impl Fault {
             | Fault::Linked
             | Fault::Full
             | Fault::NoLink
+            | Fault::Unnamed
             | Fault::NoTrial => 0,
         }
     }
@@ -42,8 +44,12 @@ impl Fault {
     {
         match self {
             Fault::Cabinet | Fault::Ends | Fault::Slots => Layer::Order,
-            Fault::TrialStands | Fault::Linked | Fault::Full | Fault::NoLink | Fault::NoTrial =>
-                Layer::Book,
+            Fault::TrialStands
+            | Fault::Linked
+            | Fault::Full
+            | Fault::NoLink
+            | Fault::Unnamed
+            | Fault::NoTrial => Layer::Book,
         }
     }
 }
