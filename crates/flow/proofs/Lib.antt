@@ -1,0 +1,11 @@
+pub mod Sums
+pub mod Counting
+pub mod Bounds
+pub mod Duality
+pub mod Cuts
+pub mod Jobs
+pub mod Halves
+pub mod Planning
+pub mod Drawing
+pub mod Changing
+pub mod Deciding
