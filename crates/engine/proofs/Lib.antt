@@ -1,0 +1,3 @@
+pub mod Arcs
+pub mod Totals
+pub mod Trims

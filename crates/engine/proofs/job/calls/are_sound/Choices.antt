@@ -1,0 +1,8 @@
+use Prim.Native.Nat.{ℕ, _<_}
+use lib.ListN.{getD}
+use Rattle.engine.specs.Arcs.{Sound}
+use Rattle.engine.proofs.Arcs.{blank}
+use Rattle.engine.proofs.job.calls.are_sound.Given as given
+
+abbrev pub Inv-loop-arc : given.InvT-loop-arc
+Inv-loop-arc l = (k : ℕ) → k < l .arc-index → Sound (getD (l .links) k blank)
