@@ -4,6 +4,8 @@ use mathlib.Core.List.{List, [], _∷_, _++_}
 use mathlib.Core.Bool.{Bool, true, false, cond}
 use Prim.Native.Nat.{ℕ, zero, suc, _+_, _-_, _≤_, _<_}
 use native.Mathlib.Omega.{arith}
+use lib.IntN.{ℤ, pos, _+ℤ_}
+use lib.Signed.{_≤ℤ_}
 use lib.ListN.{length, getD, set, take}
 use Rattle.std.specs.Holes.{removed}
 use Rattle.std.specs.Slices.{Shuffled}
@@ -11,9 +13,13 @@ use Rattle.std.specs.shelf.Lists.{sumBy}
 use Rattle.std.proofs.shelf.Sums.{sumBy-cons, sumBy-more}
 use Rattle.std.proofs.shelf.Sorted.{sumBy-shuffled}
 use Rattle.std.proofs.shelf.Tests.{true≢false, false≢true}
-use Rattle.flow.specs.Nets.{xor, crosses, side-slots}
+use Rattle.flow.specs.declared.pairs.Pairs.{Pairs}
+use Rattle.flow.specs.Nets.{xor, crosses, side-slots, Inside}
+use Rattle.flow.specs.Plans.{Proper, Held, total-one, sum-of}
 use Rattle.flow.specs.Nearness.{Near}
 use Rattle.flow.specs.Laws.{Changes}
+use Rattle.flow.proofs.Sums.{whole}
+use Rattle.flow.proofs.Duality.{first-bound, sum-bound}
 
 pub near-same : (x y : ℕ) → y ≡ x → Near x y 0 0
 near-same x y e = record { rise = omega arith; fall = omega arith }
@@ -71,3 +77,14 @@ module _ {X : Type 0} (low high capacity : X → ℕ) where
 
     pub changes : Changes low high capacity S
     changes = record { added = slots-added; resized = slots-resized; dropped = slots-dropped; renumbered = slots-renumbered }
+
+rises : (x y : ℤ) (m n a : ℕ) → x ≤ℤ pos n → n ≤ m + a → y ≡ pos m → x ≤ℤ (y +ℤ pos a)
+rises x y m n a h k e = omega (arith, whole)
+
+pub sums-near : {X : Type 0} (low high capacity : X → ℕ) (n : ℕ) (p : Pairs) (ls ms : List X) (fs gs hs ks : List ℤ) (cut first cut′ first′ : ℕ → Bool) (added taken : ℕ) → Inside low high n ls → Inside low high n ms → Proper n p → ((S : ℕ → Bool) → Near (side-slots low high capacity S ls) (side-slots low high capacity S ms) added taken) → Held low high capacity n p ls fs gs cut first → Held low high capacity n p ms hs ks cut′ first′ → (sum-of low high p ms hs ks ≤ℤ (sum-of low high p ls fs gs +ℤ pos added)) × (sum-of low high p ls fs gs ≤ℤ (sum-of low high p ms hs ks +ℤ pos taken)) × (total-one low high p ms hs ≤ℤ (total-one low high p ls fs +ℤ pos added)) × (total-one low high p ls fs ≤ℤ (total-one low high p ms hs +ℤ pos taken))
+sums-near low high capacity n p ls ms fs gs hs ks cut first cut′ first′ added taken i j pr near h m = (
+  rises _ _ (side-slots low high capacity cut ls) (side-slots low high capacity cut ms) added (sum-bound low high capacity n p ms hs ks j pr (m .feasible) cut (h .sum-side)) (near cut .rise) (h .sum-is),
+  rises _ _ (side-slots low high capacity cut′ ms) (side-slots low high capacity cut′ ls) taken (sum-bound low high capacity n p ls fs gs i pr (h .feasible) cut′ (m .sum-side)) (near cut′ .fall) (m .sum-is),
+  rises _ _ (side-slots low high capacity first ls) (side-slots low high capacity first ms) added (first-bound low high capacity n p ms hs ks j pr (m .feasible) first (h .first-side)) (near first .rise) (h .first-is),
+  rises _ _ (side-slots low high capacity first′ ms) (side-slots low high capacity first′ ls) taken (first-bound low high capacity n p ls fs gs i pr (h .feasible) first′ (m .first-side)) (near first′ .fall) (m .first-is),
+)

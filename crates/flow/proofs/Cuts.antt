@@ -10,6 +10,7 @@ use lib.IntN.{ℤ, pos}
 use lib.ListN.{length, getD}
 use Rattle.std.proofs.shelf.Tests.{false≢true}
 use Rattle.flow.specs.declared.pairs.Pairs.{Pairs}
+use Rattle.flow.specs.Ranges.{most-links, most-limit, most-fed}
 use Rattle.flow.specs.Nets.{xor, total, crosses, side-slots, Inside}
 use Rattle.flow.specs.Plans.{Proper, Held}
 use Rattle.flow.specs.Drawings.{Doubled}
@@ -155,7 +156,11 @@ module _ {X : Type 0} (low high capacity : X → ℕ) where
         first-is = h .first-is ∙ ap pos (slots-same n R V ls i b);
       }
 
--- so few links with limits so small carry less than m times as many
+-- links with limits of at most m have together at most so many times m
 pub total-within : {X : Type 0} (limit : X → ℕ) (m : ℕ) (ls : List X) → ((k : ℕ) (d : X) → k < length ls → limit (getD ls k d) ≤ m) → total limit ls ≤ length ls * m
 total-within limit m [] h = omega arith
 total-within limit m (l ∷ ls) h = omega (arith, h 0 l (omega arith), total-within limit m ls (λ k d q. h (suc k) d (omega arith)))
+
+-- so the links of a job carry less than a feed can have
+pub total-few : {X : Type 0} (limit : X → ℕ) (ls : List X) → length ls ≤ most-links → ((k : ℕ) (d : X) → k < length ls → limit (getD ls k d) ≤ most-limit) → total limit ls < most-fed
+total-few limit ls few h = omega (arith, total-within limit most-limit ls h)

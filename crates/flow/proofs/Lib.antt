@@ -9,3 +9,6 @@ pub mod Planning
 pub mod Drawing
 pub mod Changing
 pub mod Deciding
+pub mod Steps
+pub mod Trims
+pub mod Maps

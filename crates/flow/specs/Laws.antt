@@ -4,19 +4,21 @@ use mathlib.Core.List.{List, [], _∷_, _++_}
 use mathlib.Core.Bool.{Bool, true, _&&_, _||_, not}
 use mathlib.Core.Logic.{_⊎_}
 use Prim.Native.Nat.{ℕ, _+_, _*_, _-_, _≤_, _<_, max}
-use lib.IntN.{ℤ, pos, natAbs}
+use lib.IntN.{ℤ, pos, _+ℤ_, natAbs}
 use lib.Signed.{_≤ℤ_}
 use lib.ListN.{length, getD, set}
 use Rattle.std.specs.Holes.{removed}
 use Rattle.std.specs.Slices.{Shuffled}
 use Rattle.std.specs.Orderings.{Decides}
 use Rattle.flow.specs.declared.pairs.Pairs.{Pairs}
+use Rattle.flow.specs.declared.taps.Taps.{Taps}
 use Rattle.flow.specs.Ranges.{cabinets, most-fed}
 use Rattle.flow.specs.Nets.{only, xor, sum-below, total, leaving, net, crosses, side-slots, Inside}
 use Rattle.flow.specs.Plans.{Proper, FirstSide, SumSide, total-one, total-two, sum-of, Feasible, Fractional, Held, Best}
-use Rattle.flow.specs.Answers.{Within, fed}
+use Rattle.flow.specs.Answers.{Within, Answer, Solves, fed}
 use Rattle.flow.specs.Drawings.{Doubled, Halved, turned, Carries, Same-side, Drawn}
 use Rattle.flow.specs.Nearness.{Near}
+use Rattle.flow.specs.Trimming.{trimmed, dealt}
 use Rattle.flow.specs.Tests.{is-first-side, is-sum-side, is-feasible, is-held}
 
 module _ {X : Type 0} (low high capacity : X → ℕ) where
@@ -67,10 +69,18 @@ module _ {X : Type 0} (low high capacity : X → ℕ) where
     pub dropped : (ls : List X) (k : ℕ) (d : X) → k < length ls → Near (side-slots low high capacity S ls) (side-slots low high capacity S (removed ls k)) 0 (capacity (getD ls k d))
     pub renumbered : (ls ms : List X) → Shuffled ls ms → Near (side-slots low high capacity S ls) (side-slots low high capacity S ms) 0 0
 
-  -- each change moves the slots of every side by at most what it adds and takes
+  -- each change moves the slots of every side by at most what it adds and takes, and what changes in turn add and take adds up
   abbrev pub Slots-change : Type 0
-  Slots-change = (S : ℕ → Bool) → Changes S
+  Slots-change = ((S : ℕ → Bool) → Changes S) × ((x : ℕ) → Near x x 0 0) × ((x y z a k b l : ℕ) → Near x y a k → Near y z b l → Near x z (a + b) (k + l))
+
+  -- so do the sums and the totals 1 of plans that are held for the same pairs, where the slots of every side do
+  abbrev pub Sums-near : Type 0
+  Sums-near = (p : Pairs) (ls ms : List X) (fs gs hs ks : List ℤ) (cut first cut′ first′ : ℕ → Bool) (added taken : ℕ) → Inside low high cabinets ls → Inside low high cabinets ms → Proper cabinets p → ((S : ℕ → Bool) → Near (side-slots low high capacity S ls) (side-slots low high capacity S ms) added taken) → Held low high capacity cabinets p ls fs gs cut first → Held low high capacity cabinets p ms hs ks cut′ first′ → (sum-of low high p ms hs ks ≤ℤ (sum-of low high p ls fs gs +ℤ pos added)) × (sum-of low high p ls fs gs ≤ℤ (sum-of low high p ms hs ks +ℤ pos taken)) × (total-one low high p ms hs ≤ℤ (total-one low high p ls fs +ℤ pos added)) × (total-one low high p ls fs ≤ℤ (total-one low high p ms hs +ℤ pos taken))
 
   -- each computed test decides its definition
   abbrev pub Tests-decide : Type 0
   Tests-decide = (p : Pairs) (ls : List X) (fs gs : List ℤ) (cut first : ℕ → Bool) → Decides (is-feasible low high capacity cabinets p ls fs gs) (Feasible low high capacity cabinets p ls fs gs) × Decides (is-sum-side p cut) (SumSide p cut) × Decides (is-first-side p first) (FirstSide p first) × Decides (is-held low high capacity cabinets p ls fs gs cut first) (Held low high capacity cabinets p ls fs gs cut first)
+
+  -- an answer for the links with a limit above 0, with flow 0 for the others, is an answer for all links
+  abbrev pub Trim-answers : Type 0
+  Trim-answers = (ls : List X) (at most : Taps ℕ) (r : Answer) (more : List ℤ) → Solves low high capacity cabinets (trimmed capacity ls) at most r → Solves low high capacity cabinets ls at most (record { flow = dealt capacity ls (r .flow) ++ more; amount = r .amount; side = r .side })

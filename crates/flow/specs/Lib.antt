@@ -5,4 +5,5 @@ pub mod Answers
 pub mod Drawings
 pub mod Nearness
 pub mod Tests
+pub mod Trimming
 pub mod Laws

@@ -1,5 +1,5 @@
 // The theorems, for links of every type. Each is the contract of a function, so that its proof is asked for.
-ghost use Rattle.flow.specs.Laws.{Double-counting, Weak-duality, Held-is-best, Held-by-cabinets, Halving, Either-side, Submodular, Drawing, Slots-change, Tests-decide};
+ghost use Rattle.flow.specs.Laws.{Double-counting, Weak-duality, Held-is-best, Held-by-cabinets, Halving, Either-side, Submodular, Drawing, Slots-change, Sums-near, Tests-decide, Trim-answers};
 use crate::edge::Edge;
 
 // The nets of a side's cabinets add up to what leaves the side.
@@ -65,9 +65,23 @@ pub fn slots_change<E: Edge>() -> u8
     0
 }
 
+// The sums of plans held for the same pairs move no further than the slots of sides.
+pub fn sums_near<E: Edge>() -> u8
+    ensures { λ _. ⌜ Sums-near (E·Edge .low) (E·Edge .high) (E·Edge .capacity) ⌝ }
+{
+    0
+}
+
 // The computed tests decide what they test.
 pub fn tests_decide<E: Edge>() -> u8
     ensures { λ _. ⌜ Tests-decide (E·Edge .low) (E·Edge .high) (E·Edge .capacity) ⌝ }
+{
+    0
+}
+
+// An answer for the links with a limit above 0 serves all links.
+pub fn trim_answers<E: Edge>() -> u8
+    ensures { λ _. ⌜ Trim-answers (E·Edge .low) (E·Edge .high) (E·Edge .capacity) ⌝ }
 {
     0
 }
