@@ -22,3 +22,16 @@ pub trait Joins {
         ensures first { λ r. ⌜ r .first ≡ first (now (self .entry)) ⌝ }
         ensures second { λ r. ⌜ r .second ≡ second (now (self .entry)) ⌝ };
 }
+
+// A pair of ends joins them.
+pub impl Joins for Ends as EndsJoins {
+    ghost first = { λ e. e .first };
+
+    ghost second = { λ e. e .second };
+
+    ghost none = { record { first = 0; second = 0 } };
+
+    fn ends(&self) -> Ends {
+        *self
+    }
+}
