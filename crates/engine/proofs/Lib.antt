@@ -1,3 +1,2 @@
 pub mod Arcs
 pub mod Totals
-pub mod Trims

@@ -8,6 +8,10 @@ use Rattle.flow.specs.Ranges.{cabinets, most-links, most-limit, most-fed}
 use Rattle.flow.specs.Answers.{Placed}
 use Rattle.engine.specs.declared.arc.Arc.{Arc}
 
+-- what stands where a list has no link
+abbrev pub blank : Arc
+blank = record { tail = 0; head = 0; limit = 0 }
+
 abbrev pub tail-of : Arc → ℕ
 tail-of l = l .tail
 

@@ -1,4 +1,3 @@
 pub mod Arcs
 pub mod Jobs
 pub mod Totals
-pub mod Trims

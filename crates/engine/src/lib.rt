@@ -3,4 +3,5 @@ pub mod arc;
 pub mod engine;
 pub mod greatest;
 pub mod job;
+pub mod joins;
 pub mod trim;

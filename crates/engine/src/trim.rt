@@ -3,9 +3,9 @@ ghost use mathlib.Core.Path.{_≡_};
 ghost use mathlib.Core.List.{_++_};
 ghost use Prim.Native.Nat.{_≤_};
 ghost use lib.ListN.{length, take, drop};
+ghost use Rattle.flow.specs.Trimming.{trimmed, dealt};
 ghost use Rattle.engine.specs.Arcs.{limit-of};
 ghost use Rattle.engine.specs.Jobs.{links-of};
-ghost use Rattle.engine.specs.Trims.{carrying, spread};
 use crate::arc::Arc;
 use crate::engine::Engine;
 use crate::job::Job;
@@ -20,7 +20,7 @@ pub struct Trim<E> {
 fn pick(links: &[Arc], chosen: &mut [Arc; 512]) -> usize
     requires { ⌜ length (now links) ≤ 512 ⌝ }
     ensures bound { λ r. ⌜ r ≤ 512 ⌝ }
-    ensures kept { λ r. ⌜ take r (now (chosen .exit)) ≡ carrying limit-of (now (links .entry)) ⌝ }
+    ensures kept { λ r. ⌜ take r (now (chosen .exit)) ≡ trimmed limit-of (now (links .entry)) ⌝ }
 {
     let mut count = 0;
     for arc in links {
@@ -33,8 +33,8 @@ fn pick(links: &[Arc], chosen: &mut [Arc; 512]) -> usize
 }
 
 // The job with only the links that have a limit above 0.
-fn trimmed(job: &Job) -> Job
-    ensures links { λ r. ⌜ links-of r ≡ carrying limit-of (links-of (now (job .entry))) ⌝ }
+fn smaller(job: &Job) -> Job
+    ensures links { λ r. ⌜ links-of r ≡ trimmed limit-of (links-of (now (job .entry))) ⌝ }
     ensures at { λ r. ⌜ r .at ≡ now (job .entry) .at ⌝ }
     ensures most { λ r. ⌜ r .most ≡ now (job .entry) .most ⌝ }
 {
@@ -53,7 +53,7 @@ fn trimmed(job: &Job) -> Job
 // Gives the links with a limit above 0 the flows of `part` in order, and the others flow 0.
 fn deal(links: &[Arc], part: &[i32; 512], flow: &mut [i32; 512])
     requires { ⌜ length (now links) ≤ 512 ⌝ }
-    ensures { λ _. ⌜ now (flow .exit) ≡ spread limit-of (now (links .entry)) (now (part .entry)) ++ drop (length (now (links .entry))) (now (flow .entry)) ⌝ }
+    ensures { λ _. ⌜ now (flow .exit) ≡ dealt limit-of (now (links .entry)) (now (part .entry)) ++ drop (length (now (links .entry))) (now (flow .entry)) ⌝ }
 {
     let mut next = 0;
     for (i, arc) in links.iter().enumerate() {
@@ -68,7 +68,7 @@ fn deal(links: &[Arc], part: &[i32; 512], flow: &mut [i32; 512])
 
 pub impl<E: Engine> Engine for Trim<E> as TrimEngine {
     fn solve(&mut self, job: &Job, flow: &mut [i32; 512], side: &mut [bool; 64]) -> Taps<u32> {
-        let small = trimmed(job);
+        let small = smaller(job);
         let mut part = [0; 512];
         let amounts = self.below.solve(&small, &mut part, side);
         deal(job.links(), &part, flow);

@@ -11,10 +11,9 @@ use lib.IntN.{pos}
 use Rattle.std.proofs.shelf.Lists.{take-all, length-push}
 use Rattle.std.proofs.shelf.Signed.{toZ-ofZ}
 use Rattle.std.proofs.shelf.Tests.{lt-ltb, le-ltb}
-use Rattle.engine.specs.Arcs.{limit-of}
-use Rattle.engine.specs.Trims.{carrying, spread}
-use Rattle.engine.proofs.Arcs.{blank}
-use Rattle.engine.proofs.Trims.{carrying-yes, carrying-no, deal-more, dealt}
+use Rattle.engine.specs.Arcs.{blank, limit-of}
+use Rattle.flow.specs.Trimming.{trimmed, dealt}
+use Rattle.flow.proofs.Trims.{trimmed-yes, trimmed-no, dealt-more, next-flow}
 use Rattle.engine.proofs.trim.deal.Needs as need
 use Rattle.engine.proofs.trim.deal.Needs.{then-arc-gt0, else-arc-gt0}
 
@@ -25,21 +24,21 @@ loop-i-again c =
     let i = c .loop-i .i in
     let was = c .args .flow .now in
     let h = c .loop-i-test .taken in
-    let kept = length (carrying limit-of (take i links)) in
+    let kept = length (trimmed limit-of (take i links)) in
     let room : length links ≤ length was = omega arith in
     elim (c .if-arc-gt0 .came) [
       | then-arc-gt0 w ↦
           let fits : SFits w32 (getD part (c .loop-i .next) (pos 0)) = search needs in
-          let x : toZ w32 (ofZ w32 (getD part (c .loop-i .next) (pos 0))) ≡ dealt limit-of (getD links i blank) part kept =
+          let x : toZ w32 (ofZ w32 (getD part (c .loop-i .next) (pos 0))) ≡ next-flow limit-of (getD links i blank) part kept =
           toZ-ofZ w32 _ fits ∙ ap (λ n. getD part n (pos 0)) (c .loop-i .inv .1) ∙ sym (ap (λ b. cond b (getD part kept (pos 0)) (pos 0)) (lt-ltb 0 _ (w .if-arc-gt0 .taken))) in
-          (omega (arith, w .next-is), omega (arith, w .next-is, ap length (carrying-yes limit-of links i blank h (w .if-arc-gt0 .taken)), length-push (carrying limit-of (take i links)) (getD links i blank)), w .flow-is ∙ deal-more limit-of links i blank h part was (c .loop-i .flow) _ room (c .loop-i .inv .2) x)
+          (omega (arith, w .next-is), omega (arith, w .next-is, ap length (trimmed-yes limit-of links i blank h (w .if-arc-gt0 .taken)), length-push (trimmed limit-of (take i links)) (getD links i blank)), w .flow-is ∙ dealt-more limit-of links i blank h part was (c .loop-i .flow) _ room (c .loop-i .inv .2) x)
       | else-arc-gt0 w ↦
-          let x : pos 0 ≡ dealt limit-of (getD links i blank) part kept = sym (ap (λ b. cond b (getD part kept (pos 0)) (pos 0)) (le-ltb 0 _ (w .if-arc-gt0 .left))) in
-          (omega (arith, w .next-is), w .next-is ∙ c .loop-i .inv .1 ∙ sym (ap length (carrying-no limit-of links i blank h (w .if-arc-gt0 .left))), w .flow-is ∙ deal-more limit-of links i blank h part was (c .loop-i .flow) _ room (c .loop-i .inv .2) x)
+          let x : pos 0 ≡ next-flow limit-of (getD links i blank) part kept = sym (ap (λ b. cond b (getD part kept (pos 0)) (pos 0)) (le-ltb 0 _ (w .if-arc-gt0 .left))) in
+          (omega (arith, w .next-is), w .next-is ∙ c .loop-i .inv .1 ∙ sym (ap length (trimmed-no limit-of links i blank h (w .if-arc-gt0 .left))), w .flow-is ∙ dealt-more limit-of links i blank h part was (c .loop-i .flow) _ room (c .loop-i .inv .2) x)
     ]
 
 pub returns : need.returns
 returns c =
     let links = c .args .links .now in
     let end : c .loop-i .i ≡ length links = omega arith in
-    c .loop-i .inv .2 ∙ ap (λ n. spread limit-of (take n links) (c .args .part .now) ++ drop n (c .args .flow .now)) end ∙ ap (λ t. spread limit-of t (c .args .part .now) ++ drop (length links) (c .args .flow .now)) (take-all (length links) links (omega arith))
+    c .loop-i .inv .2 ∙ ap (λ n. dealt limit-of (take n links) (c .args .part .now) ++ drop n (c .args .flow .now)) end ∙ ap (λ t. dealt limit-of t (c .args .part .now) ++ drop (length links) (c .args .flow .now)) (take-all (length links) links (omega arith))

@@ -1,8 +1,7 @@
 use mathlib.Core.Path.{refl, subst}
 use native.Mathlib.Omega.{arith}
 use Rattle.std.proofs.shelf.Lists.{getD-default}
-use Rattle.engine.specs.Arcs.{Sound}
-use Rattle.engine.proofs.Arcs.{blank}
+use Rattle.engine.specs.Arcs.{blank, Sound}
 use Rattle.engine.proofs.job.calls.are_sound.Needs as need
 
 pub returns : need.returns

@@ -1,7 +1,6 @@
 use Prim.Native.Nat.{ℕ, _<_}
 use lib.ListN.{getD}
-use Rattle.engine.specs.Arcs.{Sound}
-use Rattle.engine.proofs.Arcs.{blank}
+use Rattle.engine.specs.Arcs.{blank, Sound}
 use Rattle.engine.proofs.job.calls.are_sound.Given as given
 
 abbrev pub Inv-loop-arc : given.InvT-loop-arc

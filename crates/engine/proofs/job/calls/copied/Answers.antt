@@ -4,7 +4,7 @@ use Prim.Native.Nat.{_<_}
 use native.Mathlib.Omega.{arith}
 use lib.ListN.{length, take, getD}
 use Rattle.std.proofs.shelf.Lists.{length-set, take-more, take-more-set, take-all}
-use Rattle.engine.proofs.Arcs.{blank}
+use Rattle.engine.specs.Arcs.{blank}
 use Rattle.engine.proofs.job.calls.copied.Needs as need
 
 pub loop-i-again : need.loop-i-again
