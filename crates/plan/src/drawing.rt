@@ -1,6 +1,6 @@
 // Drawing a plan: five jobs for an engine, and the shares made of the last two flows.
 ghost use mathlib.Core.Path.{_≡_};
-ghost use Prim.Native.Nat.{ℕ, _-_, _≤_, min};
+ghost use Prim.Native.Nat.{ℕ, _+_, _-_, _≤_, min};
 ghost use lib.ListN.{length, take, drop};
 ghost use Rattle.flow.specs.Ranges.{cabinets, most-links};
 ghost use Rattle.flow.specs.Nets.{members};
@@ -8,7 +8,7 @@ ghost use Rattle.flow.specs.Plans.{Proper};
 ghost use Rattle.flow.specs.Drawings.{ends-of, both-of, Drawn};
 ghost use Rattle.engine.specs.Arcs.{tail-of, head-of, limit-of, All-sound, Fits};
 ghost use Rattle.plan.specs.Links.{Lawful-links};
-ghost use Rattle.plan.specs.Halves.{half, Halves};
+ghost use Rattle.plan.specs.Halves.{half, Bounds, Made-of, Halves};
 use crate::cuts::sum_side;
 use crate::halves::halves;
 use crate::jobs::solve_joint;
@@ -23,18 +23,60 @@ use flow::pairs::Pairs;
 // More than all links of a job can carry.
 const MOST_FED: u32 = 536_870_912;
 
-// What is left for stream 2 both ways.
-fn left(ahead: u32, behind: u32, first: u32) -> u32
-    requires ahead { ⌜ first ≤ ahead ⌝ }
-    requires behind { ⌜ first ≤ behind ⌝ }
-    ensures { λ r. ⌜ r ≡ min ahead behind - first ⌝ }
+// What an engine fed in a job, and the side that allows no more.
+#[derive(Clone, Copy)]
+struct Bound {
+    total: u32,
+    side: [bool; 64],
+}
+
+// Has the engine bound stream 1 up to x beside stream 2 up to y.
+fn probe<E: Engine>(engine: &mut E, arcs: &[Arc], pairs: Pairs, x: u32, y: u32) -> Bound
+    requires { ⌜ Fits (now arcs) (ends-of pairs) (both-of x y) ⌝ }
+    ensures bounds { λ r. ⌜ Bounds pairs x y (now (arcs .entry)) (r .total) (r .side) ⌝ }
+    ensures within { λ r. ⌜ r .total ≤ x + y ⌝ }
 {
-    ahead.min(behind) - first
+    let mut flow = [0; 512];
+    let mut side = [false; 64];
+    let amounts = solve_joint(engine, arcs, pairs, x, y, &mut flow, &mut side);
+    Bound {
+        total: amounts.feed1 + amounts.feed2,
+        side,
+    }
+}
+
+// The sum side, by the way round of stream 2 that leaves less.
+fn cut_of(alone: &Bound, ahead: &Bound, behind: &Bound, pairs: Pairs) -> [bool; 64]
+    requires { ⌜ Proper cabinets pairs ⌝ }
+    ensures { λ r. ⌜ Made-of pairs (now (ahead .entry) .total) (now (behind .entry) .total) (now (alone .entry) .side) (now (ahead .entry) .side) (now (behind .entry) .side) r ⌝ }
+{
+    if ahead.total <= behind.total {
+        sum_side(&alone.side, &ahead.side, pairs)
+    } else {
+        sum_side(&alone.side, &behind.side, turn(pairs))
+    }
+}
+
+// What is left for stream 2 both ways.
+fn left(ahead: u32, behind: u32, alone: u32) -> u32
+    requires ahead { ⌜ alone ≤ ahead ⌝ }
+    requires behind { ⌜ alone ≤ behind ⌝ }
+    ensures { λ r. ⌜ r ≡ min ahead behind - alone ⌝ }
+{
+    ahead.min(behind) - alone
 }
 
 // Solves the two jobs of stream 1 up to x and stream 2 up to y, the second with stream 2 turned,
 // and writes the shares made of their flows to the front of the two lists.
-fn halve<E: Engine>(engine: &mut E, arcs: &[Arc], pairs: Pairs, x: u32, y: u32, one: &mut [i32], two: &mut [i32])
+fn halve<E: Engine>(
+    engine: &mut E,
+    arcs: &[Arc],
+    pairs: Pairs,
+    x: u32,
+    y: u32,
+    one: &mut [i32],
+    two: &mut [i32],
+)
     requires fits { ⌜ Fits (now arcs) (ends-of pairs) (both-of x y) ⌝ }
     requires proper { ⌜ Proper cabinets pairs ⌝ }
     requires ones { ⌜ length (now arcs) ≤ length (now one) ⌝ }
@@ -52,7 +94,13 @@ fn halve<E: Engine>(engine: &mut E, arcs: &[Arc], pairs: Pairs, x: u32, y: u32, 
 }
 
 // Draws over the links of the jobs.
-fn draw_halves<E: Engine>(engine: &mut E, arcs: &[Arc], pairs: Pairs, one: &mut [i32], two: &mut [i32]) -> Sides
+fn draw_halves<E: Engine>(
+    engine: &mut E,
+    arcs: &[Arc],
+    pairs: Pairs,
+    one: &mut [i32],
+    two: &mut [i32],
+) -> Sides
     requires few { ⌜ length (now arcs) ≤ most-links ⌝ }
     requires sound { ⌜ All-sound (now arcs) ⌝ }
     requires proper { ⌜ Proper cabinets pairs ⌝ }
@@ -62,28 +110,26 @@ fn draw_halves<E: Engine>(engine: &mut E, arcs: &[Arc], pairs: Pairs, one: &mut 
     ensures beyond_one { λ _. ⌜ drop (length (now (arcs .entry))) (now (one .exit)) ≡ drop (length (now (arcs .entry))) (now (one .entry)) ⌝ }
     ensures beyond_two { λ _. ⌜ drop (length (now (arcs .entry))) (now (two .exit)) ≡ drop (length (now (arcs .entry))) (now (two .entry)) ⌝ }
 {
-    let mut flow = [0; 512];
-    let mut first = [false; 64];
-    let mut ahead = [false; 64];
-    let mut behind = [false; 64];
-    let alone = solve_joint(engine, arcs, pairs, MOST_FED, 0, &mut flow, &mut first);
-    let x = alone.feed1 + alone.feed2;
-    let beside = solve_joint(engine, arcs, pairs, x, MOST_FED, &mut flow, &mut ahead);
-    let v = beside.feed1 + beside.feed2;
-    let against = solve_joint(engine, arcs, turn(pairs), x, MOST_FED, &mut flow, &mut behind);
-    let w = against.feed1 + against.feed2;
-    let cut = if v <= w {
-        sum_side(&first, &ahead, pairs)
-    } else {
-        sum_side(&first, &behind, turn(pairs))
-    };
-    halve(engine, arcs, pairs, x, left(v, w, x), one, two);
-    Sides { cut, first }
+    let alone = probe(engine, arcs, pairs, MOST_FED, 0);
+    let ahead = probe(engine, arcs, pairs, alone.total, MOST_FED);
+    let behind = probe(engine, arcs, turn(pairs), alone.total, MOST_FED);
+    let second = left(ahead.total, behind.total, alone.total);
+    halve(engine, arcs, pairs, alone.total, second, one, two);
+    Sides {
+        cut: cut_of(&alone, &ahead, &behind, pairs),
+        first: alone.side,
+    }
 }
 
 // Draws a plan with the engine. Its shares stand at the front of `one` and `two`, later places stay as they
 // were, and the sides that show it best are answered.
-pub fn draw<L: Edge, E: Engine>(engine: &mut E, links: &[L], pairs: Pairs, one: &mut [i32], two: &mut [i32]) -> Sides
+pub fn draw<L: Edge, E: Engine>(
+    engine: &mut E,
+    links: &[L],
+    pairs: Pairs,
+    one: &mut [i32],
+    two: &mut [i32],
+) -> Sides
     requires lawful { ⌜ Lawful-links (L·Edge .low) (L·Edge .high) (L·Edge .capacity) (now links) ⌝ }
     requires proper { ⌜ Proper cabinets pairs ⌝ }
     requires ones { ⌜ length (now links) ≤ length (now one) ⌝ }

@@ -53,7 +53,15 @@ fn joint(arcs: &[Arc], pairs: Pairs, x: u32, y: u32) -> Job
 }
 
 // Has the engine solve it.
-pub fn solve_joint<E: Engine>(engine: &mut E, arcs: &[Arc], pairs: Pairs, x: u32, y: u32, flow: &mut [i32; 512], side: &mut [bool; 64]) -> Taps<u32>
+pub fn solve_joint<E: Engine>(
+    engine: &mut E,
+    arcs: &[Arc],
+    pairs: Pairs,
+    x: u32,
+    y: u32,
+    flow: &mut [i32; 512],
+    side: &mut [bool; 64],
+) -> Taps<u32>
     requires { ⌜ Fits (now arcs) (ends-of pairs) (both-of x y) ⌝ }
     ensures { λ r. ⌜ Answered tail-of head-of limit-of cabinets pairs x y (now (arcs .entry)) (answer (now (flow .exit)) r (now (side .exit))) ⌝ }
 {

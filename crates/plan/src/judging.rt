@@ -24,7 +24,10 @@ const CABINETS: usize = 64;
 fn are_fitting<L: Edge>(links: &[L], one: &[i32], two: &[i32], cut: &[bool], first: &[bool]) -> bool
     ensures { λ r. ⌜ r ≡ are-fitting (now (links .entry)) (now (one .entry)) (now (two .entry)) (now (cut .entry)) (now (first .entry)) ⌝ }
 {
-    one.len() == links.len() && two.len() == links.len() && cut.len() == CABINETS && first.len() == CABINETS
+    one.len() == links.len()
+        && two.len() == links.len()
+        && cut.len() == CABINETS
+        && first.len() == CABINETS
 }
 
 // Whether the two shares without sign add up to more than the link's slots.
@@ -50,7 +53,14 @@ fn first_over<L: Edge>(links: &[L], one: &[i32], two: &[i32]) -> Option<u16>
 }
 
 // Whether the cabinet keeps what enters it of the stream, counted from 0, or is one of its ends.
-fn keeps_in<L: Edge>(links: &[L], pairs: Pairs, one: &[i32], two: &[i32], stream: u8, cabinet: u8) -> bool
+fn keeps_in<L: Edge>(
+    links: &[L],
+    pairs: Pairs,
+    one: &[i32],
+    two: &[i32],
+    stream: u8,
+    cabinet: u8,
+) -> bool
     requires few { ⌜ length (now links) ≤ most-links ⌝ }
     requires ones { ⌜ length (now one) ≡ length (now links) ⌝ }
     requires twos { ⌜ length (now two) ≡ length (now links) ⌝ }
@@ -91,7 +101,14 @@ fn fills<L: Edge>(sum: i128, links: &[L], side: &[bool]) -> bool
 }
 
 // The first flaw of the two sides, of the sum and of total 1.
-fn weigh<L: Edge>(links: &[L], pairs: Pairs, one: &[i32], two: &[i32], cut: &[bool], first: &[bool]) -> Option<Flaw>
+fn weigh<L: Edge>(
+    links: &[L],
+    pairs: Pairs,
+    one: &[i32],
+    two: &[i32],
+    cut: &[bool],
+    first: &[bool],
+) -> Option<Flaw>
     requires few { ⌜ length (now links) ≤ most-links ⌝ }
     requires ones { ⌜ length (now one) ≡ length (now links) ⌝ }
     requires twos { ⌜ length (now two) ≡ length (now links) ⌝ }
@@ -115,7 +132,14 @@ fn weigh<L: Edge>(links: &[L], pairs: Pairs, one: &[i32], two: &[i32], cut: &[bo
 }
 
 // The first flaw of a proposed plan: two lists of shares and two lists of sides, of any length and with any numbers.
-pub fn judge<L: Edge>(links: &[L], pairs: Pairs, one: &[i32], two: &[i32], cut: &[bool], first: &[bool]) -> Option<Flaw>
+pub fn judge<L: Edge>(
+    links: &[L],
+    pairs: Pairs,
+    one: &[i32],
+    two: &[i32],
+    cut: &[bool],
+    first: &[bool],
+) -> Option<Flaw>
     requires { ⌜ length (now links) ≤ most-links ⌝ }
     ensures { λ r. ⌜ r ≡ judged (L·Edge .low) (L·Edge .high) (L·Edge .capacity) pairs (now (links .entry)) (now (one .entry)) (now (two .entry)) (now (cut .entry)) (now (first .entry)) ⌝ }
 {

@@ -19,7 +19,13 @@ fn share(plus: i32, minus: i32) -> (i32, i32)
 }
 
 // Writes the shares of all links to the front of the two lists.
-pub fn share_all(arcs: &[Arc], plus: &[i32; 512], minus: &[i32; 512], one: &mut [i32], two: &mut [i32])
+pub fn share_all(
+    arcs: &[Arc],
+    plus: &[i32; 512],
+    minus: &[i32; 512],
+    one: &mut [i32],
+    two: &mut [i32],
+)
     requires few { ⌜ length (now arcs) ≤ most-links ⌝ }
     requires sound { ⌜ All-sound (now arcs) ⌝ }
     requires plus { ⌜ Within limit-of (now arcs) (now plus) ⌝ }
