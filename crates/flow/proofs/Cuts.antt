@@ -52,52 +52,46 @@ cut-difference false false true false k = omega arith
 cut-difference false false false true k = omega arith
 cut-difference false false false false k = omega arith
 
-cut-xor : (a b c d : Bool) (k : ℕ) → cond (xor (xor a c) (xor b d)) k 0 ≤ cond (xor a b) k 0 + cond (xor c d) k 0
-cut-xor true true true true k = omega arith
-cut-xor true true true false k = omega arith
-cut-xor true true false true k = omega arith
-cut-xor true true false false k = omega arith
-cut-xor true false true true k = omega arith
-cut-xor true false true false k = omega arith
-cut-xor true false false true k = omega arith
-cut-xor true false false false k = omega arith
-cut-xor false true true true k = omega arith
-cut-xor false true true false k = omega arith
-cut-xor false true false true k = omega arith
-cut-xor false true false false k = omega arith
-cut-xor false false true true k = omega arith
-cut-xor false false true false k = omega arith
-cut-xor false false false true k = omega arith
-cut-xor false false false false k = omega arith
+-- exclusive-ors regrouped
+pub xor-swap : (a b c d : Bool) → xor (xor a c) (xor b d) ≡ xor (xor a b) (xor c d)
+xor-swap true true true true = refl
+xor-swap true true true false = refl
+xor-swap true true false true = refl
+xor-swap true true false false = refl
+xor-swap true false true true = refl
+xor-swap true false true false = refl
+xor-swap true false false true = refl
+xor-swap true false false false = refl
+xor-swap false true true true = refl
+xor-swap false true true false = refl
+xor-swap false true false true = refl
+xor-swap false true false false = refl
+xor-swap false false true true = refl
+xor-swap false false true false = refl
+xor-swap false false false true = refl
+xor-swap false false false false = refl
+
+pub xor-turned : (a b c : Bool) → xor (not (xor a c)) (not (xor b c)) ≡ xor a b
+xor-turned true true true = refl
+xor-turned true true false = refl
+xor-turned true false true = refl
+xor-turned true false false = refl
+xor-turned false true true = refl
+xor-turned false true false = refl
+xor-turned false false true = refl
+xor-turned false false false = refl
 
 -- a link that crosses the exclusive-or crosses one of the two
-either-cut : (a b c d : Bool) → xor (xor a c) (xor b d) ≡ true → (xor a b ≡ true) ⊎ (xor c d ≡ true)
-either-cut true true true true e = absurd (false≢true e)
-either-cut true true true false e = inr refl
-either-cut true true false true e = inr refl
-either-cut true true false false e = absurd (false≢true e)
-either-cut true false true true e = inl refl
-either-cut true false true false e = absurd (false≢true e)
-either-cut true false false true e = absurd (false≢true e)
-either-cut true false false false e = inl refl
-either-cut false true true true e = inl refl
-either-cut false true true false e = absurd (false≢true e)
-either-cut false true false true e = absurd (false≢true e)
-either-cut false true false false e = inl refl
-either-cut false false true true e = absurd (false≢true e)
-either-cut false false true false e = inr refl
-either-cut false false false true e = inr refl
-either-cut false false false false e = absurd (false≢true e)
+either : (x y : Bool) → xor x y ≡ true → (x ≡ true) ⊎ (y ≡ true)
+either true y e = inl refl
+either false true e = inr refl
+either false false e = absurd (false≢true e)
 
-cut-turned : (a b c : Bool) (k : ℕ) → cond (xor (not (xor a c)) (not (xor b c))) k 0 ≡ cond (xor a b) k 0
-cut-turned true true true k = refl
-cut-turned true true false k = refl
-cut-turned true false true k = refl
-cut-turned true false false k = refl
-cut-turned false true true k = refl
-cut-turned false true false k = refl
-cut-turned false false true k = refl
-cut-turned false false false k = refl
+either-slots : (x y : Bool) (k : ℕ) → cond (xor x y) k 0 ≤ cond x k 0 + cond y k 0
+either-slots true true k = omega arith
+either-slots true false k = omega arith
+either-slots false true k = omega arith
+either-slots false false k = omega arith
 
 cut-within : (b : Bool) (k : ℕ) → cond b k 0 ≤ k
 cut-within true k = le-refl k
@@ -112,11 +106,12 @@ join a b c d w x y z h k = omega arith
 
 module _ {X : Type 0} (low high capacity : X → ℕ) where
   pub crosses-either : (S R : ℕ → Bool) (l : X) → crosses low high (λ v. xor (S v) (R v)) l ≡ true → (crosses low high S l ≡ true) ⊎ (crosses low high R l ≡ true)
-  crosses-either S R l e = either-cut (S (low l)) (S (high l)) (R (low l)) (R (high l)) e
+  crosses-either S R l e = either (crosses low high S l) (crosses low high R l) (sym (xor-swap (S (low l)) (S (high l)) (R (low l)) (R (high l))) ∙ e)
 
   pub slots-xor : (S R : ℕ → Bool) (ls : List X) → side-slots low high capacity (λ v. xor (S v) (R v)) ls ≤ side-slots low high capacity S ls + side-slots low high capacity R ls
   slots-xor S R [] = omega arith
-  slots-xor S R (l ∷ ls) = omega (arith, cut-xor (S (low l)) (S (high l)) (R (low l)) (R (high l)) (capacity l), slots-xor S R ls)
+  slots-xor S R (l ∷ ls) =
+      omega (arith, ap (λ t. cond t (capacity l) 0) (xor-swap (S (low l)) (S (high l)) (R (low l)) (R (high l))), either-slots (crosses low high S l) (crosses low high R l) (capacity l), slots-xor S R ls)
 
   pub slots-union : (S R : ℕ → Bool) (ls : List X) → side-slots low high capacity (λ v. S v || R v) ls + side-slots low high capacity (λ v. S v && R v) ls ≤ side-slots low high capacity S ls + side-slots low high capacity R ls
   slots-union S R [] = omega arith
@@ -129,7 +124,7 @@ module _ {X : Type 0} (low high capacity : X → ℕ) where
   -- a side or its complement: the cabinets where S is c
   pub slots-turned : (S : ℕ → Bool) (c : Bool) (ls : List X) → side-slots low high capacity (λ v. not (xor (S v) c)) ls ≡ side-slots low high capacity S ls
   slots-turned S c [] = refl
-  slots-turned S c (l ∷ ls) = ap₂ _+_ (cut-turned (S (low l)) (S (high l)) c (capacity l)) (slots-turned S c ls)
+  slots-turned S c (l ∷ ls) = ap₂ _+_ (ap (λ t. cond t (capacity l) 0) (xor-turned (S (low l)) (S (high l)) c)) (slots-turned S c ls)
 
   -- a side has at most the slots of all links
   pub slots-within : (S : ℕ → Bool) (ls : List X) → side-slots low high capacity S ls ≤ total capacity ls

@@ -17,17 +17,17 @@ use Rattle.flow.proofs.Sums.{whole, only-true, only-false}
 use Rattle.flow.proofs.Bounds.{after-at}
 
 -- one link's part
-link-plus : (a b : Bool) (y z f K L M : ℤ) → f ≡ y +ℤ z → K ≡ L +ℤ M → (only a f -ℤ only b f) +ℤ K ≡ ((only a y -ℤ only b y) +ℤ L) +ℤ ((only a z -ℤ only b z) +ℤ M)
-link-plus true true y z f K L M e q = omega (arith, whole)
-link-plus true false y z f K L M e q = omega (arith, whole)
-link-plus false true y z f K L M e q = omega (arith, whole)
-link-plus false false y z f K L M e q = omega (arith, whole)
+share-plus : (a b : Bool) (y z f K L M : ℤ) → f ≡ y +ℤ z → K ≡ L +ℤ M → (only a f -ℤ only b f) +ℤ K ≡ ((only a y -ℤ only b y) +ℤ L) +ℤ ((only a z -ℤ only b z) +ℤ M)
+share-plus true true y z f K L M e q = omega (arith, whole)
+share-plus true false y z f K L M e q = omega (arith, whole)
+share-plus false true y z f K L M e q = omega (arith, whole)
+share-plus false false y z f K L M e q = omega (arith, whole)
 
-link-minus : (a b : Bool) (y z f K L M : ℤ) → f ≡ y -ℤ z → K ≡ L -ℤ M → (only a f -ℤ only b f) +ℤ K ≡ ((only a y -ℤ only b y) +ℤ L) -ℤ ((only a z -ℤ only b z) +ℤ M)
-link-minus true true y z f K L M e q = omega (arith, whole)
-link-minus true false y z f K L M e q = omega (arith, whole)
-link-minus false true y z f K L M e q = omega (arith, whole)
-link-minus false false y z f K L M e q = omega (arith, whole)
+share-minus : (a b : Bool) (y z f K L M : ℤ) → f ≡ y -ℤ z → K ≡ L -ℤ M → (only a f -ℤ only b f) +ℤ K ≡ ((only a y -ℤ only b y) +ℤ L) -ℤ ((only a z -ℤ only b z) +ℤ M)
+share-minus true true y z f K L M e q = omega (arith, whole)
+share-minus true false y z f K L M e q = omega (arith, whole)
+share-minus false true y z f K L M e q = omega (arith, whole)
+share-minus false false y z f K L M e q = omega (arith, whole)
 
 -- the two shares without sign add up to twice the greater flow
 pub no-set-off : (y z f g : ℤ) → f ≡ y +ℤ z → g ≡ y -ℤ z → natAbs f + natAbs g ≡ 2 * max (natAbs y) (natAbs z)
@@ -48,11 +48,11 @@ module _ {X : Type 0} (low high : X → ℕ) where
   -- what leaves any set adds and subtracts
   pub halved-plus : (S : ℕ → Bool) (ls : List X) (y z fs gs : List ℤ) → Halved (length ls) y z fs gs → leaving low high S ls fs ≡ leaving low high S ls y +ℤ leaving low high S ls z
   halved-plus S [] y z fs gs h = refl
-  halved-plus S (l ∷ ls) y z fs gs h = link-plus (S (low l)) (S (high l)) (here y) (here z) (here fs) _ _ _ (h 0 (omega arith) .0) (halved-plus S ls (after y) (after z) (after fs) (after gs) (halved-after (length ls) y z fs gs h))
+  halved-plus S (l ∷ ls) y z fs gs h = share-plus (S (low l)) (S (high l)) (here y) (here z) (here fs) _ _ _ (h 0 (omega arith) .0) (halved-plus S ls (after y) (after z) (after fs) (after gs) (halved-after (length ls) y z fs gs h))
 
   pub halved-minus : (S : ℕ → Bool) (ls : List X) (y z fs gs : List ℤ) → Halved (length ls) y z fs gs → leaving low high S ls gs ≡ leaving low high S ls y -ℤ leaving low high S ls z
   halved-minus S [] y z fs gs h = refl
-  halved-minus S (l ∷ ls) y z fs gs h = link-minus (S (low l)) (S (high l)) (here y) (here z) (here gs) _ _ _ (h 0 (omega arith) .1) (halved-minus S ls (after y) (after z) (after fs) (after gs) (halved-after (length ls) y z fs gs h))
+  halved-minus S (l ∷ ls) y z fs gs h = share-minus (S (low l)) (S (high l)) (here y) (here z) (here gs) _ _ _ (h 0 (omega arith) .1) (halved-minus S ls (after y) (after z) (after fs) (after gs) (halved-after (length ls) y z fs gs h))
 
 pub halved-shared : {X : Type 0} (limit capacity : X → ℕ) (ls : List X) (y z fs gs : List ℤ) → Doubled limit capacity ls → Halved (length ls) y z fs gs → Within limit ls y → Within limit ls z → Shared capacity ls fs gs
 halved-shared limit capacity ls y z fs gs two h wy wz k d q =

@@ -6,21 +6,12 @@ use Prim.Native.Nat.{ℕ, zero, suc, _+_, _≤_, _<_}
 use native.Mathlib.Omega.{arith}
 use lib.IntN.{ℤ, pos, _+ℤ_, _-ℤ_, natAbs}
 use lib.Dec.{eqb}
-use lib.ListN.{length, getD}
+use lib.ListN.{length, getD, length-map, List·getD-map}
 use Rattle.flow.specs.declared.taps.Taps.{Taps}
 use Rattle.flow.specs.Nets.{only, here, after, total, leaving, crosses, side-slots, Inside}
 use Rattle.flow.specs.Answers.{Within, Answer, Solves}
 
 module _ {X Y : Type 0} (g : X → Y) where
-  pub length-mapped : (ls : List X) → length (map g ls) ≡ length ls
-  length-mapped [] = refl
-  length-mapped (l ∷ ls) = ap suc (length-mapped ls)
-
-  pub getD-mapped : (ls : List X) (k : ℕ) (d : X) → getD (map g ls) k (g d) ≡ g (getD ls k d)
-  getD-mapped [] k d = refl
-  getD-mapped (l ∷ ls) zero d = refl
-  getD-mapped (l ∷ ls) (suc k) d = getD-mapped ls k d
-
   pub total-mapped : (limit : Y → ℕ) (ls : List X) → total limit (map g ls) ≡ total (λ x. limit (g x)) ls
   total-mapped limit [] = refl
   total-mapped limit (l ∷ ls) = ap (λ k. limit (g l) + k) (total-mapped limit ls)
@@ -40,7 +31,7 @@ module _ {X Y : Type 0} (g : X → Y) where
     inside-mapped n (l ∷ ls) i (suc k) d h = inside-mapped n ls (λ j e q. i (suc j) e (omega arith)) k d (omega arith)
 
     pub within-mapped : (ls : List X) (fs : List ℤ) → Within limit (map g ls) fs → Within (λ x. limit (g x)) ls fs
-    within-mapped ls fs w k d h = subst (λ y. natAbs (getD fs k (pos 0)) ≤ limit y) (getD-mapped ls k d) (w k (g d) (omega (arith, length-mapped ls)))
+    within-mapped ls fs w k d h = subst (λ y. natAbs (getD fs k (pos 0)) ≤ limit y) (List·getD-map g ls k d) (w k (g d) (omega (arith, length-map ls g)))
 
     pub solves-mapped : (n : ℕ) (ls : List X) (at most : Taps ℕ) (r : Answer) → Solves low high limit n (map g ls) at most r → Solves (λ x. low (g x)) (λ x. high (g x)) (λ x. limit (g x)) n ls at most r
     solves-mapped n ls at most r s =

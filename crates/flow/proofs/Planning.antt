@@ -13,7 +13,7 @@ use Rattle.flow.specs.Nets.{only, xor, total, net, side-slots, Inside}
 use Rattle.flow.specs.Plans.{Proper, SumSide}
 use Rattle.flow.specs.Answers.{Answer, Placed, Within, Solves, fed, cost}
 use Rattle.flow.specs.Drawings.{turned, ends-of, both-of, Carries, Answered, mix, made-side}
-use Rattle.flow.proofs.Cuts.{slots-xor, slots-turned, slots-within}
+use Rattle.flow.proofs.Cuts.{xor-swap, xor-turned, slots-xor, slots-turned, slots-within}
 use Rattle.flow.proofs.Jobs.{fed-within, fed-drained}
 
 -- ---- costs
@@ -78,34 +78,6 @@ other true true e = absurd (false≢true e)
 other true false e = refl
 other false true e = refl
 other false false e = absurd (false≢true e)
-
-part-turned : (a b c : Bool) → xor (not (xor a c)) (not (xor b c)) ≡ xor a b
-part-turned true true true = refl
-part-turned true true false = refl
-part-turned true false true = refl
-part-turned true false false = refl
-part-turned false true true = refl
-part-turned false true false = refl
-part-turned false false true = refl
-part-turned false false false = refl
-
-part-mixed : (a b c d : Bool) → xor (xor a c) (xor b d) ≡ xor (xor a b) (xor c d)
-part-mixed true true true true = refl
-part-mixed true true true false = refl
-part-mixed true true false true = refl
-part-mixed true true false false = refl
-part-mixed true false true true = refl
-part-mixed true false true false = refl
-part-mixed true false false true = refl
-part-mixed true false false false = refl
-part-mixed false true true true = refl
-part-mixed false true true false = refl
-part-mixed false true false true = refl
-part-mixed false true false false = refl
-part-mixed false false true true = refl
-part-mixed false false true false = refl
-part-mixed false false false true = refl
-part-mixed false false false false = refl
 
 pub turned-proper : (n : ℕ) (p : Pairs) → Proper n p → Proper n (turned p)
 turned-proper n p pr = record { source1-in = pr .source1-in; goal1-in = pr .goal1-in; source2-in = pr .goal2-in; goal2-in = pr .source2-in; apart1 = pr .apart1; apart2 = λ e. pr .apart2 (sym e) }
@@ -200,15 +172,15 @@ module _ {X : Type 0} (low high limit : X → ℕ) (n : ℕ) (ls : List X) (i : 
         -- a set that parts both pairs, turned so that it holds source 1
         turn : (P : ℕ → Bool) → xor (P (p .source1)) (P (p .goal1)) ≡ true → xor (P (p .source2)) (P (p .goal2)) ≡ true → side-slots low high limit P ls ≤ A + B → SumSide p (λ v. not (xor (P v) (P (p .source1)))) × (side-slots low high limit (λ v. not (xor (P v) (P (p .source1)))) ls ≤ A + B)
         turn P p1 p2 k =
-            (record { holds = self (P (p .source1)); lacks = other (P (p .source1)) (P (p .goal1)) p1; parts = part-turned (P (p .source2)) (P (p .goal2)) (P (p .source1)) ∙ p2 }, omega (arith, slots-turned low high limit P (P (p .source1)) ls))
+            (record { holds = self (P (p .source1)); lacks = other (P (p .source1)) (P (p .goal1)) p1; parts = xor-turned (P (p .source2)) (P (p .goal2)) (P (p .source1)) ∙ p2 }, omega (arith, slots-turned low high limit P (P (p .source1)) ls))
 
         deep : (m : Bool) → xor (S (p .source1)) (S (p .goal1)) ≡ m → xor (F (p .source2)) (F (p .goal2)) ≡ false → SumSide p (λ v. not (xor (cond m (S v) (xor (F v) (S v))) (cond m (S (p .source1)) (xor (F (p .source1)) (S (p .source1)))))) × (side-slots low high limit (λ v. not (xor (cond m (S v) (xor (F v) (S v))) (cond m (S (p .source1)) (xor (F (p .source1)) (S (p .source1)))))) ls ≤ A + B)
         deep true em eo = turn S em parts-S (omega (arith, c))
         deep false em eo =
             turn
             (λ v. xor (F v) (S v))
-            (part-mixed (F (p .source1)) (F (p .goal1)) (S (p .source1)) (S (p .goal1)) ∙ ap₂ xor parts-F em)
-            (part-mixed (F (p .source2)) (F (p .goal2)) (S (p .source2)) (S (p .goal2)) ∙ ap₂ xor eo parts-S)
+            (xor-swap (F (p .source1)) (F (p .goal1)) (S (p .source1)) (S (p .goal1)) ∙ ap₂ xor parts-F em)
+            (xor-swap (F (p .source2)) (F (p .goal2)) (S (p .source2)) (S (p .goal2)) ∙ ap₂ xor eo parts-S)
             (omega (arith, slots-xor low high limit F S ls, both-same (S (p .source1)) (S (p .goal1)) A em, c, e))
 
         go : (o : Bool) → xor (F (p .source2)) (F (p .goal2)) ≡ o → SumSide p (λ v. cond o (F v) (not (xor (mix F S p v) (mix F S p (p .source1))))) × (side-slots low high limit (λ v. cond o (F v) (not (xor (mix F S p v) (mix F S p (p .source1))))) ls ≤ A + B)

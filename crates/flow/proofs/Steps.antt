@@ -44,6 +44,12 @@ module _ {X : Type 0} (low high : X → ℕ) where
   pub slots-step : (capacity : X → ℕ) (S : ℕ → Bool) (ls : List X) (i : ℕ) (x : X) → x ≡ getD ls i x → i < length ls → side-slots low high capacity S (take (i + 1) ls) ≡ side-slots low high capacity S (take i ls) + cond (crosses low high S x) (capacity x) 0
   slots-step capacity S ls i x e h = slots-more low high capacity S ls i x h ∙ ap (λ y. side-slots low high capacity S (take i ls) + cond (crosses low high S y) (capacity y) 0) (sym e)
 
+  -- flows that carry the same on every link
+  pub leaving-same : (S : ℕ → Bool) (ls : List X) (fs gs : List ℤ) → ((k : ℕ) → k < length ls → getD fs k (pos 0) ≡ getD gs k (pos 0)) → leaving low high S ls fs ≡ leaving low high S ls gs
+  leaving-same S [] fs gs e = refl
+  leaving-same S (l ∷ ls) fs gs e =
+      ap₂ _+ℤ_ (ap (λ x. only (S (low l)) x -ℤ only (S (high l)) x) (e 0 (omega arith))) (leaving-same S ls (after fs) (after gs) (λ k h. after-at fs k ∙ e (suc k) (omega arith) ∙ sym (after-at gs k)))
+
   -- y more on the link k leaves where the link leaves
   pub leaving-set : (S : ℕ → Bool) (ls : List X) (fs : List ℤ) (k : ℕ) (y : ℤ) (d : X) → k < length ls → k < length fs → leaving low high S ls (set fs k (getD fs k (pos 0) +ℤ y)) ≡ leaving low high S ls fs +ℤ (only (S (low (getD ls k d))) y -ℤ only (S (high (getD ls k d))) y)
   leaving-set S [] fs k y d h q = absurd (omega arith)

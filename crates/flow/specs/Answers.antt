@@ -7,7 +7,7 @@ use lib.IntN.{ℤ, pos, _+ℤ_, _-ℤ_, natAbs}
 use lib.ListN.{length, getD}
 use lib.Dec.{eqb}
 use Rattle.flow.specs.declared.taps.Taps.{Taps}
-use Rattle.flow.specs.Nets.{only, net, side-slots}
+use Rattle.flow.specs.Nets.{only, members, net, side-slots}
 
 -- each of the four numbers stands in the relation to its partner
 abbrev pub Each : (ℕ → ℕ → Type 0) → Taps ℕ → Taps ℕ → Type 0
@@ -39,6 +39,10 @@ pub record Answer : Type 0 where
   pub flow : List ℤ
   pub amount : Taps ℕ
   pub side : ℕ → Bool
+
+-- an answer as an engine leaves it in lists
+abbrev pub answer-of : List ℤ → Taps ℕ → List Bool → Answer
+answer-of fs amount xs = record { flow = fs; amount = amount; side = members xs }
 
 -- the total fed
 abbrev pub fed : Answer → ℕ

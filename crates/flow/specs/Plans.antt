@@ -62,7 +62,7 @@ pub record Feasible {X : Type 0} (low high capacity : X → ℕ) (n : ℕ) (p : 
 
 -- a plan in fractions: whole shares that are feasible after all slots are multiplied by q, which is 1 or more; they count as one q-th
 pub record Fractional {X : Type 0} (low high capacity : X → ℕ) (n q : ℕ) (p : Pairs) (ls : List X) (fs gs : List ℤ) : Type 0 where
-  pub whole : 1 ≤ q
+  pub some : 1 ≤ q
   pub feasible : Feasible low high (λ l. q * capacity l) n p ls fs gs
 
 -- a plan held with a sum side, which is its cut, and a first side

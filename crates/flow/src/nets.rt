@@ -1,6 +1,6 @@
 // What leaves a cabinet minus what enters it.
 ghost use mathlib.Core.Path.{_≡_};
-ghost use Prim.Native.Nat.{ℕ, _≤_, _^_};
+ghost use Prim.Native.Nat.{_≤_, _^_};
 ghost use lib.Dec.{eqb};
 ghost use lib.IntN.{_-ℤ_, natAbs};
 ghost use lib.ListN.{length};

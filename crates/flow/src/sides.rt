@@ -1,7 +1,7 @@
 // Sides: sets of cabinets, given as a list that says yes or no for each in turn.
 ghost use mathlib.Core.Bool.{cond};
 ghost use mathlib.Core.Path.{_≡_};
-ghost use Prim.Native.Nat.{ℕ, _≤_};
+ghost use Prim.Native.Nat.{_≤_};
 ghost use lib.ListN.{length};
 ghost use Rattle.flow.specs.Ranges.{most-links};
 ghost use Rattle.flow.specs.Nets.{members, crosses, side-slots};

@@ -1,12 +1,15 @@
 -- What a push and a pop do to the items of a ring.
 use Prim.Native.Nat.{ℕ, suc, zero, _+_, _-_, _≤_, _<_}
 use mathlib.Core.Path.{_≡_, refl, sym, ap, _∙_}
+use mathlib.Core.Logic.{_⊎_, inl, inr}
 use mathlib.Core.List.{List, [], _∷_, _++_}
 use native.Mathlib.Omega.{arith}
 use native.Mathlib.Numerals.{add-one}
+use lib.Dec.{ltb}
 use lib.ListN.{length, take, drop, getD, set, length-take, length-drop, length-append, length-set}
 use Rattle.std.proofs.shelf.Lists.{take-append-le, take-more-set, drop-set-add, drop-set-lt, set-append-right, drop-more, drop-all}
-use Rattle.search.specs.Rings.{held}
+use Rattle.std.proofs.shelf.Tests.{cases-lt, cond-true, cond-false, lt-ltb, le-ltb}
+use Rattle.search.specs.Rings.{held, behind}
 
 module _ {T : Type 0} (ps : List T) where
   pub length-held : (head len : ℕ) → head ≤ length ps → len ≤ length ps → length (held ps head len) ≡ len
@@ -23,12 +26,9 @@ module _ {T : Type 0} (ps : List T) where
       ∙ take-more-set (drop head ps) len x k
       ∙ ap (λ (d : List T). d ++ (x ∷ [])) (sym (take-append-le len (drop head ps) ps (omega arith)))
 
-  pub push-near : (head len at : ℕ) (x : T) → head + len < length ps → at ≡ head + len → held (set ps at x) head (len + 1) ≡ held ps head len ++ (x ∷ [])
-  push-near head len at x h e = ap (λ (i : ℕ). held (set ps i x) head (len + 1)) e ∙ near head len x h
-
   -- it stands at the start again
-  pub push-far : (head len at : ℕ) (x : T) → head ≤ length ps → len < length ps → length ps - head ≤ len → at ≡ len - (length ps - head) → held (set ps at x) head (len + 1) ≡ held ps head len ++ (x ∷ [])
-  push-far head len at x h l f e =
+  far : (head len at : ℕ) (x : T) → head ≤ length ps → len < length ps → length ps - head ≤ len → at ≡ len - (length ps - head) → held (set ps at x) head (len + 1) ≡ held ps head len ++ (x ∷ [])
+  far head len at x h l f e =
       let n : length (drop head ps) ≡ length ps - head = length-drop head ps in
       let k : len < length (drop head ps ++ ps) = simp length-append (omega arith) in
       let a : drop head (set ps at x) ≡ drop head ps = drop-set-lt head ps at x (omega arith) in
@@ -36,6 +36,15 @@ module _ {T : Type 0} (ps : List T) where
       ∙ ap (λ (i : ℕ). take (len + 1) (drop head ps ++ set ps i x)) e
       ∙ ap (take (len + 1)) (sym (set-append-right (drop head ps) ps (length ps - head) len x n f))
       ∙ take-more-set (drop head ps ++ ps) len x k
+
+  -- the place behind the last item takes the new one
+  pub push-behind : (head len : ℕ) (x : T) → head ≤ length ps → len < length ps → held (set ps (behind ps head len) x) head (len + 1) ≡ held ps head len ++ (x ∷ [])
+  push-behind head len x h l = elim (cases-lt len (length ps - head)) [
+    | inl lt ↦
+        ap (λ (i : ℕ). held (set ps i x) head (len + 1)) (cond-true (ltb len (length ps - head)) (head + len) (len - (length ps - head)) (lt-ltb len (length ps - head) lt))
+        ∙ near head len x (omega arith)
+    | inr ge ↦ far head len (behind ps head len) x h l ge (cond-false (ltb len (length ps - head)) (head + len) (len - (length ps - head)) (le-ltb len (length ps - head) ge))
+  ]
 
   -- a head at the end is as good as one at the start
   pub held-wrap : (len : ℕ) → len ≤ length ps → held ps (length ps) len ≡ held ps 0 len
@@ -51,5 +60,12 @@ module _ {T : Type 0} (ps : List T) where
       ap (λ (q : List T). take (suc len) (q ++ ps)) a
       ∙ ap (λ (n : ℕ). getD ps head d ∷ take n (drop (head + 1) ps ++ ps)) (sym b)
 
-  pub pop-wrap : (head len : ℕ) (d : T) → len ≤ length ps → 0 < len → head ≡ length ps → held ps head len ≡ getD ps 0 d ∷ held ps 1 (len - 1)
-  pop-wrap head len d l z e = ap (λ (i : ℕ). held ps i len) e ∙ held-wrap len l ∙ pop-front 0 len d (omega arith) z
+  -- the head goes on, round the end
+  pub pop-next : (head len at : ℕ) (d : T) → head < length ps → 0 < len → len ≤ length ps → ((at ≡ head + 1) ⊎ ((at ≡ 0) × (head + 1 ≡ length ps))) → held ps head len ≡ getD ps head d ∷ held ps at (len - 1)
+  pop-next head len at d h z l (inl e) =
+      pop-front head len d h z ∙ ap (λ (i : ℕ). getD ps head d ∷ held ps i (len - 1)) (sym e)
+  pop-next head len at d h z l (inr e) =
+      pop-front head len d h z
+      ∙ ap (λ (i : ℕ). getD ps head d ∷ held ps i (len - 1)) (e .1)
+      ∙ ap (λ (xs : List T). getD ps head d ∷ xs) (held-wrap (len - 1) (omega arith))
+      ∙ ap (λ (i : ℕ). getD ps head d ∷ held ps i (len - 1)) (sym (e .0))

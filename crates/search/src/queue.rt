@@ -1,18 +1,18 @@
 // A first-in-first-out queue over places that the caller lends.
 ghost use mathlib.Core.Path.{_≡_};
 ghost use mathlib.Core.List.{[]};
-ghost use Prim.Native.Nat.{ℕ, _≤_};
+ghost use Prim.Native.Nat.{ℕ, _-_, _≤_};
 ghost use lib.ListN.{length};
 ghost use denote.Ref.{now, name};
 ghost use Rattle.search.specs.Rings.{held, Pushed, Written, Popped, Fronted};
 
-// A ring: the items stand from `head` on, and go on from place 0 where they pass the end.
+// A ring: the items stand from `head` on, and go on from place 0 where they pass the end. The head is a place, if there is one.
 #[derive(Drop)]
 pub struct Queue<'a, T> {
     places: &'a mut [T],
     head: usize,
     len: usize,
-    ghost starts: { head ≤ length (now places) },
+    ghost starts: { head ≤ length (now places) - 1 },
     ghost fits: { len ≤ length (now places) },
 }
 
@@ -61,12 +61,7 @@ impl<'a, T: Copy> Queue<'a, T> {
             return None;
         }
         let places: &[T] = &self.places[0..self.places.len()];
-        let head = if self.head == places.len() {
-            0
-        } else {
-            self.head
-        };
-        Some(places[head])
+        Some(places[self.head])
     }
 
     // Takes the first item.
@@ -79,13 +74,14 @@ impl<'a, T: Copy> Queue<'a, T> {
         if self.len == 0 {
             return None;
         }
-        let head = if self.head == self.places.len() {
+        let front = self.head;
+        let item = self.places[front];
+        let head = if front + 1 == self.places.len() {
             0
         } else {
-            self.head
+            front + 1
         };
-        let item = self.places[head];
-        self.head = head + 1;
+        self.head = head;
         self.len -= 1;
         Some(item)
     }
