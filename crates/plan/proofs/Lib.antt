@@ -1,0 +1,4 @@
+pub mod Lawful
+pub mod Finding
+pub mod Admission
+pub mod Drawings

@@ -1,0 +1,4 @@
+pub mod Meshes
+pub mod Networks
+pub mod Grounds
+pub mod Raising
