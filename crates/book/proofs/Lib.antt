@@ -2,4 +2,5 @@ mod Changes
 mod Distinct
 mod Linking
 mod Pasts
+mod Holding
 mod Laws

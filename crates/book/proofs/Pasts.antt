@@ -26,7 +26,7 @@ use Rattle.book.specs.declared.book.Book.{Book}
 use Rattle.book.specs.declared.trial.Trial.{Trial}
 use Rattle.book.specs.Plans.{Plan}
 use Rattle.book.specs.History.{State, state, opened, Call, refusal, Step, Stays, Run, Past, added, taken, counted, linked, resized, slots-of, not-standing, Trial-there}
-use Rattle.book.specs.History.Call.{Add, Resize, Drop, Name, Begin, Close, Draw}
+use Rattle.book.specs.History.Call.{Add, Resize, Drop, Name, Begin, Close, Draw, Admit}
 use Rattle.book.specs.History.Run.{still, more}
 use Rattle.book.specs.Ledgers.{seen}
 use Rattle.book.specs.Books.{Sound, Standing}
@@ -154,6 +154,14 @@ step-sound s t (Close u) (Ok _) g h =
     subst Sound (sym (h .1)) (resized-sound s (u .link) (u .slots) None g (subst (λ (n : ℕ). n % 2 ≡ 0) (w .3) (f .2)) (subst (λ (n : ℕ). n ≤ most-slots) (w .3) (f .3)) (free _ (s .pairs) None None refl))
 step-sound s t Draw (Ok _) g h =
     subst Sound (sym (h .1 .4)) (record {
+      ruled = g .ruled;
+      single = g .single;
+      few = g .few;
+      proper = g .proper;
+      standing = g .standing;
+    })
+step-sound s t (Admit j) (Ok _) g h =
+    subst Sound (sym (h .1)) (record {
       ruled = g .ruled;
       single = g .single;
       few = g .few;

@@ -6,7 +6,7 @@ use Prim.Native.Nat.{ℕ, _≤_, _<_, _+_, _-_, min, max}
 use lib.Dec.{eqb, leb, ltb}
 use lib.ListN.{length, getD, set}
 use Rattle.std.specs.Holes.{removed}
-use Rattle.std.specs.Options.{isSome}
+use Rattle.std.specs.Options.{isSome, mapped}
 use Rattle.std.specs.declared.option.Option.{Option}
 use Rattle.std.specs.declared.option.Option.the-variants.{Some, None}
 use Rattle.std.specs.declared.result.Result.{Result}
@@ -15,10 +15,10 @@ use Rattle.flow.specs.declared.pairs.Pairs.{Pairs}
 use Rattle.mesh.specs.declared.row.Row.{Row}
 use Rattle.book.specs.declared.trial.Trial.{Trial}
 use Rattle.mesh.specs.declared.fault.Fault.{Fault}
-use Rattle.mesh.specs.declared.fault.Fault.the-variants.{TrialStands, Cabinet, Ends, Slots, Linked, Full, NoLink, Unnamed, NoTrial}
+use Rattle.mesh.specs.declared.fault.Fault.the-variants.{TrialStands, Cabinet, Ends, Slots, Linked, Full, NoLink, Unnamed, NoTrial, Proposal}
 use Rattle.mesh.specs.Faults.{refuse-if}
 use Rattle.mesh.specs.Links.{between, blank, bad-slots}
-use Rattle.book.specs.Plans.{Plan, Drawn-plan}
+use Rattle.book.specs.Plans.{Plan, Drawn-plan, flaw-of}
 
 -- what a book is at one moment: its links in order, the streams' pairs if named, the trial that stands and the plan that is held, if any
 pub record State : Type 0 where
@@ -43,6 +43,7 @@ pub data Call : Type 0 where
   Begin : ℕ → Call
   Close : Trial → Call
   Draw : Call
+  Admit : Plan → Call
 
 -- the slots of a link
 abbrev pub slots-of : List Row → ℕ → ℕ
@@ -74,6 +75,11 @@ abbrev pub not-standing : Option Trial → Trial → Bool
 not-standing None u = true
 not-standing (Some t) u = not (same-trial t u)
 
+-- the refusal of a proposed plan: the streams are not named, or its first flaw
+abbrev pub admission : List Row → Option Pairs → Plan → Option Fault
+admission rows None h = Some Unnamed
+admission rows (Some p) h = mapped Proposal (flaw-of rows p h)
+
 -- the table of refusals: for each call its conditions in order, and the fault of the first that holds
 abbrev pub refusal : State → Call → Option Fault
 refusal s (Add a b n) =
@@ -98,6 +104,7 @@ refusal s (Begin l) =
     refuse-if (leb (length (s .rows)) l) NoLink None)
 refusal s (Close u) = refuse-if (not-standing (s .trial) u) NoTrial None
 refusal s Draw = refuse-if (not (isSome (s .pairs))) Unnamed None
+refusal s (Admit h) = admission (s .rows) (s .pairs) h
 
 -- what an accepted call does: one that changes the mesh or the pairs withdraws the plan, and a drawn plan is any that engines' answers make
 abbrev pub Goes : State → Call → State → Type 0
@@ -108,6 +115,7 @@ Goes s (Name p) t = t ≡ state (s .rows) (Some p) (s .trial) None
 Goes s (Begin l) t = t ≡ state (resized (s .rows) l 0) (s .pairs) (Some (record { link = l; slots = slots-of (s .rows) l })) None
 Goes s (Close u) t = t ≡ state (resized (s .rows) (u .link) (u .slots)) (s .pairs) None None
 Goes s Draw t = (p : Pairs) × (h : Plan) × (s .pairs ≡ Some p) × Drawn-plan (s .rows) p h × (t ≡ state (s .rows) (s .pairs) (s .trial) (Some h))
+Goes s (Admit h) t = t ≡ state (s .rows) (s .pairs) (s .trial) (Some h)
 
 -- one call: accepted where the table has no refusal, else refused with the table's first, and nothing is altered
 abbrev pub Step : State → Call → Result (Unit {0}) Fault → State → Type 0
@@ -132,6 +140,7 @@ added s (Name p) = 0
 added s (Begin l) = 0
 added s (Close u) = u .slots
 added s Draw = 0
+added s (Admit h) = 0
 
 -- the slots that an accepted call takes from the mesh
 abbrev pub taken : State → Call → ℕ
@@ -142,6 +151,7 @@ taken s (Name p) = 0
 taken s (Begin l) = slots-of (s .rows) l
 taken s (Close u) = 0
 taken s Draw = 0
+taken s (Admit h) = 0
 
 -- a refused call adds and takes nothing
 abbrev pub counted : Result (Unit {0}) Fault → ℕ → ℕ

@@ -10,4 +10,5 @@ pub struct Book {
 }
 
 pub mod calls;
+pub mod plans;
 pub mod reads;

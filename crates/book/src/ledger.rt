@@ -1,10 +1,10 @@
 ghost use mathlib.Core.Path.{_≡_};
 ghost use Prim.Native.Nat.{_≤_};
 ghost use Rattle.std.specs.Of.Vec.{vec-len, vec-cap};
-use crate::plan::Sides;
 use crate::trial::Trial;
 use flow::pairs::Pairs;
 use mesh::row::Row;
+use plan::sides::Sides;
 
 // What a book holds. A held plan has its shares at the front of `one` and `two`,
 // which are as long as a book may have links. All memory is taken when it is opened.
@@ -23,5 +23,6 @@ pub(crate) struct Ledger {
 }
 
 pub(crate) mod calls;
+pub(crate) mod plans;
 pub(crate) mod reads;
 pub(crate) mod trials;

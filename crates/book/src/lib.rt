@@ -1,5 +1,5 @@
 // The book: a mesh of links, the two streams' pairs, and what follows from the calls on it.
 pub mod book;
 mod ledger;
-pub mod plan;
+pub mod proposal;
 pub mod trial;

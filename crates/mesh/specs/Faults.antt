@@ -4,9 +4,20 @@ use mathlib.Core.Bool.{Bool, cond}
 use Rattle.std.specs.declared.option.Option.{Option}
 use Rattle.std.specs.declared.option.Option.the-variants.{Some}
 use Rattle.mesh.specs.declared.fault.Fault.{Fault}
-use Rattle.mesh.specs.declared.fault.Fault.the-variants.{TrialStands, Cabinet, Ends, Slots, Linked, Full, NoLink, Unnamed, NoTrial}
+use Rattle.mesh.specs.declared.fault.Fault.the-variants.{TrialStands, Cabinet, Ends, Slots, Linked, Full, NoLink, Unnamed, NoTrial, Proposal, Sheet}
+use Rattle.plan.specs.Flaws as flaws
+use Rattle.mesh.specs.declared.fault.Missing.{Missing}
+use Rattle.mesh.specs.declared.fault.Missing.the-variants as missing
 use Rattle.mesh.specs.declared.fault.Layer.{Layer}
-use Rattle.mesh.specs.declared.fault.Layer.the-variants.{Order, Book}
+use Rattle.mesh.specs.declared.fault.Layer.the-variants as layers
+
+-- the number of what a sheet lacks
+abbrev pub missing-number : Missing → ℕ
+missing-number missing.Plan = 30
+missing-number missing.Link = 27
+missing-number missing.Cabinet = 22
+missing-number missing.Stream = 32
+missing-number missing.Room = 31
 
 -- the number of a fault
 abbrev pub number : Fault → ℕ
@@ -19,8 +30,10 @@ number Full = 26
 number NoLink = 27
 number Unnamed = 28
 number NoTrial = 29
+number (Proposal flaw) = flaws.number flaw
+number (Sheet m) = missing-number m
 
--- where in the caller's request a fault lies: these faults name no place of their own
+-- where in the caller's request a fault lies: a flaw of a proposal has its place, and the others name none
 abbrev pub place : Fault → ℕ
 place TrialStands = 0
 place Cabinet = 0
@@ -31,18 +44,22 @@ place Full = 0
 place NoLink = 0
 place Unnamed = 0
 place NoTrial = 0
+place (Proposal flaw) = flaws.place flaw
+place (Sheet m) = 0
 
--- the layer that finds a fault: the order's own numbers, or the book that it meets
+-- the layer that finds a fault: the order's own numbers, the book that it meets, the proposal, or the sheet that is read
 abbrev pub layer : Fault → Layer
-layer TrialStands = Book
-layer Cabinet = Order
-layer Ends = Order
-layer Slots = Order
-layer Linked = Book
-layer Full = Book
-layer NoLink = Book
-layer Unnamed = Book
-layer NoTrial = Book
+layer TrialStands = layers.Book
+layer Cabinet = layers.Order
+layer Ends = layers.Order
+layer Slots = layers.Order
+layer Linked = layers.Book
+layer Full = layers.Book
+layer NoLink = layers.Book
+layer Unnamed = layers.Book
+layer NoTrial = layers.Book
+layer (Proposal flaw) = layers.Proposal
+layer (Sheet m) = layers.Sheet
 
 -- a line of the table of refusals: this fault if the test holds, else what the rest of the table says
 abbrev pub refuse-if : Bool → Fault → Option Fault → Option Fault

@@ -1,3 +1,5 @@
+use plan::flaw::Flaw;
+
 // Why a call is refused.
 #[derive(Clone, Copy)]
 pub enum Fault {
@@ -10,6 +12,20 @@ pub enum Fault {
     NoLink,
     Unnamed,
     NoTrial,
+    // A proposed plan has a flaw.
+    Proposal(Flaw),
+    // A sheet lacks what was asked of it.
+    Sheet(Missing),
+}
+
+// What a sheet lacks: a held plan, the link, the cabinet or the stream that was asked for, or room for a route in the caller's list.
+#[derive(Clone, Copy)]
+pub enum Missing {
+    Plan,
+    Link,
+    Cabinet,
+    Stream,
+    Room,
 }
 
 // The place of check that a fault names.
@@ -17,6 +33,8 @@ pub enum Fault {
 pub enum Layer {
     Order,
     Book,
+    Proposal,
+    Sheet,
 }
 
 pub mod tell;

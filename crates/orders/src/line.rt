@@ -66,6 +66,8 @@ fn layer_text(layer: Layer) -> &'static str
     match layer {
         Layer::Order => "order",
         Layer::Book => "book",
+        Layer::Proposal => "proposal",
+        Layer::Sheet => "sheet",
     }
 }
 

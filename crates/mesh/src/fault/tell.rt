@@ -1,7 +1,23 @@
 ghost use mathlib.Core.Path.{_≡_};
-ghost use Rattle.mesh.specs.Faults.{number, place, layer};
+ghost use Rattle.mesh.specs.Faults.{number, missing-number, place, layer};
 use crate::fault::Fault;
 use crate::fault::Layer;
+use crate::fault::Missing;
+
+impl Missing {
+    // The number by which a sheet reports what it lacks.
+    pub fn number(self) -> u8
+        ensures { λ r. ⌜ r ≡ missing-number self ⌝ }
+    {
+        match self {
+            Missing::Plan => 30,
+            Missing::Link => 27,
+            Missing::Cabinet => 22,
+            Missing::Stream => 32,
+            Missing::Room => 31,
+        }
+    }
+}
 
 impl Fault {
     // The number by which the fault is reported.
@@ -18,6 +34,8 @@ impl Fault {
             Fault::NoLink => 27,
             Fault::Unnamed => 28,
             Fault::NoTrial => 29,
+            Fault::Proposal(flaw) => flaw.number(),
+            Fault::Sheet(missing) => missing.number(),
         }
     }
 
@@ -34,7 +52,9 @@ impl Fault {
             | Fault::Full
             | Fault::NoLink
             | Fault::Unnamed
-            | Fault::NoTrial => 0,
+            | Fault::NoTrial
+            | Fault::Sheet(_) => 0,
+            Fault::Proposal(flaw) => flaw.place(),
         }
     }
 
@@ -50,6 +70,8 @@ impl Fault {
             | Fault::NoLink
             | Fault::Unnamed
             | Fault::NoTrial => Layer::Book,
+            Fault::Proposal(_) => Layer::Proposal,
+            Fault::Sheet(_) => Layer::Sheet,
         }
     }
 }
