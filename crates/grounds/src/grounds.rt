@@ -22,11 +22,11 @@ pub impl<'a> Ground for Slotted<'a> as SlottedGround {
     ghost lawful = { λ s. lawfulNet (s .net) };
 
     fn links(&self) -> u16 {
-        self.net.links.len() as u16
+        self.net.count()
     }
 
     fn ends(&self, link: u16) -> Ends {
-        self.net.links[link as usize]
+        self.net.ends_of(link)
     }
 
     fn is_open(&self, _cabinet: u8, link: u16) -> bool {
@@ -35,7 +35,7 @@ pub impl<'a> Ground for Slotted<'a> as SlottedGround {
     }
 
     fn links_at(&self, cabinet: u8) -> &[u16] {
-        self.net.index.row(cabinet)
+        self.net.row(cabinet)
     }
 }
 
@@ -51,18 +51,18 @@ pub impl<'a> Ground for OneWay<'a> as OneWayGround {
     ghost lawful = { λ s. lawfulNet (s .net) };
 
     fn links(&self) -> u16 {
-        self.net.links.len() as u16
+        self.net.count()
     }
 
     fn ends(&self, link: u16) -> Ends {
-        self.net.links[link as usize]
+        self.net.ends_of(link)
     }
 
     fn is_open(&self, cabinet: u8, link: u16) -> bool {
-        self.net.links[link as usize].first == cabinet
+        self.net.ends_of(link).first == cabinet
     }
 
     fn links_at(&self, cabinet: u8) -> &[u16] {
-        self.net.index.row(cabinet)
+        self.net.row(cabinet)
     }
 }

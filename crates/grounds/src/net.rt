@@ -44,6 +44,7 @@ pub fn is_mesh(links: &[Ends]) -> bool
 }
 
 impl<'a> Net<'a> {
+    // The net of these links and their index.
     pub fn new(links: &'a [Ends], index: &'a Incidence) -> Net<'a>
         requires lawful { ⌜ Lawful (meshAt (now links)) ⌝ }
         requires indexed { ⌜ IndexOf (now index) (meshAt (now links)) ⌝ }
@@ -51,5 +52,28 @@ impl<'a> Net<'a> {
         ensures index { λ r. ⌜ now (r .index) ≡ now (index .entry) ⌝ }
     {
         Net { links, index }
+    }
+
+    // How many links there are.
+    pub fn count(&self) -> u16
+        ensures { λ r. ⌜ r ≡ length (now (now (self .entry) .links)) ⌝ }
+    {
+        self.links.len() as u16
+    }
+
+    // The ends of a link.
+    pub fn ends_of(&self, link: u16) -> Ends
+        requires { ⌜ link < length (now (now self .links)) ⌝ }
+        ensures { λ r. ⌜ r ≡ getD (now (now (self .entry) .links)) link none ⌝ }
+    {
+        self.links[link as usize]
+    }
+
+    // The links that touch a cabinet, in ascending order.
+    pub fn row(&self, cabinet: u8) -> &[u16]
+        requires { ⌜ cabinet < 64 ⌝ }
+        ensures { λ r. ⌜ now r ≡ incident (meshAt (now (now (self .entry) .links))) cabinet ⌝ }
+    {
+        self.index.row(cabinet)
     }
 }

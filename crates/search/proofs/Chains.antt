@@ -8,7 +8,7 @@ use native.Mathlib.Omega.{arith}
 use lib.ListN.{length, take, drop, set}
 use Rattle.std.specs.Holes.{between}
 use Rattle.std.specs.shelf.Lists.{All}
-use Rattle.std.proofs.shelf.Lists.{drop-set, append-assoc, append-nil}
+use Rattle.std.proofs.shelf.Lists.{drop-set, drop-set-lt, append-assoc, append-nil}
 use Rattle.std.proofs.shelf.Elements.{all-push, all-weaker}
 use Rattle.search.specs.Graphs.{Graph, Step, across}
 use Rattle.search.specs.Spreads.{mark, chain, Stepped, Tree}
@@ -92,10 +92,15 @@ step ms goal count path at k lt long t =
     ∙ sym (append-assoc (chain ms (mark ms at .from) k) (mark ms at .over ∷ []) (between (suc k) count path))
     ∙ t
 
-pub tracing-more : (ms : List Mark) (goal count : ℕ) (path : List ℕ) (at left : ℕ) → 0 < left → left ≤ count → count ≤ length path → Tracing ms goal count path at left → Tracing ms goal count (set path (left - 1) (mark ms at .over)) (mark ms at .from) (left - 1)
-tracing-more ms goal count path at left pos le long t =
-    let e : left ≡ suc (left - 1) = omega arith in
-    step ms goal count path at (left - 1) (omega arith) (omega arith) (subst (Tracing ms goal count path at) e t)
+pub tracing-more : (ms : List Mark) (goal count : ℕ) (path ps : List ℕ) (at a left : ℕ) → 0 < left → left ≤ count → count ≤ length path → a ≡ mark ms at .from → ps ≡ set path (left - 1) (mark ms at .over) → Tracing ms goal count path at left → Tracing ms goal count ps a (left - 1)
+tracing-more ms goal count path ps at a left pos le long e f t =
+    let z : left ≡ suc (left - 1) = omega arith in
+    subst (λ (p : List ℕ). Tracing ms goal count p a (left - 1)) (sym f)
+    (subst (λ (c : ℕ). Tracing ms goal count (set path (left - 1) (mark ms at .over)) c (left - 1)) (sym e)
+    (step ms goal count path at (left - 1) (omega arith) (omega arith) (subst (Tracing ms goal count path at) z t)))
+
+pub tracing-rest : (count : ℕ) (path ps old : List ℕ) (left x : ℕ) → 0 < left → left ≤ count → ps ≡ set path (left - 1) x → drop count path ≡ drop count old → drop count ps ≡ drop count old
+tracing-rest count path ps old left x pos le f r = ap (drop count) f ∙ drop-set-lt count path (left - 1) x (omega arith) ∙ r
 
 pub tracing-all : (ms : List Mark) (goal count : ℕ) (path : List ℕ) (at left : ℕ) → left ≤ 0 → Tracing ms goal count path at left → take count path ≡ chain ms goal count
 tracing-all ms goal count path at left z t =

@@ -17,7 +17,7 @@ use Rattle.std.proofs.shelf.Lists.{append-nil, map-id, length-append, length-se
 use Rattle.std.proofs.shelf.Sums.{length-kept-by, countBy-le-length, sumBy-take-le, sumBy-set, sumBy-more}
 use Rattle.std.proofs.shelf.Tests.{cases-eq, cases-lt, eq-eqb, ne-eqb, eqb-true, cond-true, cond-false}
 use Rattle.search.specs.Graphs.{Mesh, meshOf, Lawful, touches, incident}
-use Rattle.search.specs.Rows.{Indexes, Counts, Starts}
+use Rattle.search.specs.Rows.{Indexes, Counts, Starts, bumped}
 
 -- The mesh of the first n links.
 abbrev pub front : Mesh → ℕ → Mesh
@@ -90,12 +90,12 @@ joint first second none links x n a b laws h r ea eb =
     }
 
 -- One more at the cabinet a.
-bumped : (counts : List ℕ) (a v : ℕ) → a < length counts → getD (set counts a (getD counts a 0 + 1)) v 0 ≡ getD counts v 0 + cond (eqb a v) 1 0
-bumped counts a v h = elim (cases-eq a v) [
+getD-bumped : (counts : List ℕ) (a v : ℕ) → a < length counts → getD (bumped counts a) v 0 ≡ getD counts v 0 + cond (eqb a v) 1 0
+getD-bumped counts a v h = elim (cases-eq a v) [
   | inl e ↦
       let t : _≡_ {A = ℕ} (cond (eqb a v) 1 0) 1 = cond-true (eqb a v) 1 0 (eq-eqb a v e) in
       let s = getD-set-same counts a (getD counts a 0 + 1) 0 h in
-      let at = ap (λ (k : ℕ). getD (set counts a (getD counts a 0 + 1)) k 0) e in
+      let at = ap (λ (k : ℕ). getD (bumped counts a) k 0) e in
       let old = ap (λ (k : ℕ). getD counts k 0) e in
       omega (arith, t, s, at, old)
   | inr n ↦
@@ -116,16 +116,16 @@ counting-none m = record { long = refl; each = λ v h. getD-replicate 64 v 0 0 h
 pub counting-low : (m : Mesh) (counts : List ℕ) (n a : ℕ) → n ≤ 512 → a < 64 → Counting m counts n → getD counts a 0 ≤ 512
 counting-low m counts n a few h c = omega (arith, c .each a h, incident-short m n a)
 
-pub counting-low-next : (m : Mesh) (counts cs : List ℕ) (n a b : ℕ) → n ≤ 512 → Joint m n a b → Counting m counts n → cs ≡ set counts a (getD counts a 0 + 1) → getD cs b 0 < 1024
+pub counting-low-next : (m : Mesh) (counts cs : List ℕ) (n a b : ℕ) → n ≤ 512 → Joint m n a b → Counting m counts n → cs ≡ bumped counts a → getD cs b 0 < 1024
 counting-low-next m counts cs n a b few j c e =
     let low = counting-low m counts n b few (j .second-in) c in
     let h = j .first-in in
-    let s = bumped counts a b (omega (arith, c .long)) in
+    let s = getD-bumped counts a b (omega (arith, c .long)) in
     let at = ap (λ (xs : List ℕ). getD xs b 0) e in
     let one : cond (eqb a b) 1 0 ≤ 1 = elim (eqb a b) as (λ x. cond x 1 0 ≤ 1) [ true ↦ omega arith | false ↦ omega arith ] in
     omega (arith, low, s, at, one)
 
-pub counting-more : (m : Mesh) (counts cs ds : List ℕ) (n a b : ℕ) → Joint m n a b → cs ≡ set counts a (getD counts a 0 + 1) → ds ≡ set cs b (getD cs b 0 + 1) → Counting m counts n → Counting m ds (n + 1)
+pub counting-more : (m : Mesh) (counts cs ds : List ℕ) (n a b : ℕ) → Joint m n a b → cs ≡ bumped counts a → ds ≡ bumped cs b → Counting m counts n → Counting m ds (n + 1)
 counting-more m counts cs ds n a b j e f c =
     let ea = j .is-first in
     let eb = j .is-second in
@@ -138,8 +138,8 @@ counting-more m counts cs ds n a b j e f c =
     record {
       long = ld;
       each = λ v h.
-          let one = ap (λ (xs : List ℕ). getD xs v 0) e ∙ bumped counts a v (omega (arith, c .long)) in
-          let two = ap (λ (xs : List ℕ). getD xs v 0) f ∙ bumped cs b v (omega (arith, lc)) in
+          let one = ap (λ (xs : List ℕ). getD xs v 0) e ∙ getD-bumped counts a v (omega (arith, c .long)) in
+          let two = ap (λ (xs : List ℕ). getD xs v 0) f ∙ getD-bumped cs b v (omega (arith, lc)) in
           let sum2 = two-counts (eqb a v) (eqb b v) (getD counts v 0) n (incident (front m n) v) (not-both a b v (j .apart)) (c .each v h) in
           let both : length (incident (front m n) v ++ cond (eqb a v || eqb b v) (n ∷ []) []) ≡ length (incident (front m (n + 1)) v) =
           ap length (ap (λ (x : ℕ). incident (front m n) v ++ cond (eqb x v || eqb b v) (n ∷ []) []) ea
@@ -239,7 +239,7 @@ module _ {m : Mesh} {starts : List ℕ} (s : Starts starts m) (entries next : Li
   ]
 
   abbrev next′ : List ℕ
-  next′ = set next a (getD next a 0 + 1)
+  next′ = bumped next a
 
   at′ : (v : ℕ) → v < 64 → (getD next′ v 0 ≡ getD starts v 0 + length (put-in rows a l v)) × (between (getD starts v 0) (getD next′ v 0) (set entries (getD next a 0) l) ≡ put-in rows a l v)
   at′ v h = elim (cases-eq a v) [
@@ -323,14 +323,14 @@ module _ {m : Mesh} {starts : List ℕ} (s : Starts starts m) (entries next : Li
   pub first-place : getD next a 0 < 1024
   first-place = put-place s entries next (incident (front m n)) a n (j .first-in) f low free-first
 
-  module _ (es ns : List ℕ) (e : es ≡ set entries (getD next a 0) n) (g : ns ≡ set next a (getD next a 0 + 1)) where
+  module _ (es ns : List ℕ) (e : es ≡ set entries (getD next a 0) n) (g : ns ≡ bumped next a) where
     half : Filling starts es ns (put-in (incident (front m n)) a n)
     half = put-more s entries next (incident (front m n)) a n (j .first-in) f low free-first es ns e g
 
     pub second-place : getD ns b 0 < 1024
     second-place = put-place s es ns (put-in (incident (front m n)) a n) b n (j .second-in) half low-first free-second
 
-    pub filled-more : (xs ys : List ℕ) → xs ≡ set es (getD ns b 0) n → ys ≡ set ns b (getD ns b 0 + 1) → Filled m starts xs ys (n + 1)
+    pub filled-more : (xs ys : List ℕ) → xs ≡ set es (getD ns b 0) n → ys ≡ bumped ns b → Filled m starts xs ys (n + 1)
     filled-more xs ys e′ g′ =
         let whole = put-more s es ns (put-in (incident (front m n)) a n) b n (j .second-in) half low-first free-second xs ys e′ g′ in
         record {

@@ -5,11 +5,11 @@ use mathlib.Core.Logic.{_⊎_, inl, inr}
 use mathlib.Core.List.{List, [], _∷_, _++_}
 use native.Mathlib.Omega.{arith}
 use native.Mathlib.Numerals.{add-one}
-use lib.Dec.{ltb}
+use lib.Dec.{eqb, ltb}
 use lib.ListN.{length, take, drop, getD, set, length-take, length-drop, length-append, length-set}
 use Rattle.std.proofs.shelf.Lists.{take-append-le, take-more-set, drop-set-add, drop-set-lt, set-append-right, drop-more, drop-all}
-use Rattle.std.proofs.shelf.Tests.{cases-lt, cond-true, cond-false, lt-ltb, le-ltb}
-use Rattle.search.specs.Rings.{held, behind}
+use Rattle.std.proofs.shelf.Tests.{cases-eq, cases-lt, eq-eqb, ne-eqb, cond-true, cond-false, lt-ltb, le-ltb}
+use Rattle.search.specs.Rings.{held, after, behind}
 
 module _ {T : Type 0} (ps : List T) where
   pub length-held : (head len : ℕ) → head ≤ length ps → len ≤ length ps → length (held ps head len) ≡ len
@@ -61,11 +61,13 @@ module _ {T : Type 0} (ps : List T) where
       ∙ ap (λ (n : ℕ). getD ps head d ∷ take n (drop (head + 1) ps ++ ps)) (sym b)
 
   -- the head goes on, round the end
-  pub pop-next : (head len at : ℕ) (d : T) → head < length ps → 0 < len → len ≤ length ps → ((at ≡ head + 1) ⊎ ((at ≡ 0) × (head + 1 ≡ length ps))) → held ps head len ≡ getD ps head d ∷ held ps at (len - 1)
-  pop-next head len at d h z l (inl e) =
-      pop-front head len d h z ∙ ap (λ (i : ℕ). getD ps head d ∷ held ps i (len - 1)) (sym e)
-  pop-next head len at d h z l (inr e) =
+  pub pop-after : (head len : ℕ) (d : T) → head < length ps → 0 < len → len ≤ length ps → held ps head len ≡ getD ps head d ∷ held ps (after ps head) (len - 1)
+  pop-after head len d h z l =
       pop-front head len d h z
-      ∙ ap (λ (i : ℕ). getD ps head d ∷ held ps i (len - 1)) (e .1)
-      ∙ ap (λ (xs : List T). getD ps head d ∷ xs) (held-wrap (len - 1) (omega arith))
-      ∙ ap (λ (i : ℕ). getD ps head d ∷ held ps i (len - 1)) (sym (e .0))
+      ∙ ap (λ (xs : List T). getD ps head d ∷ xs) (elim (cases-eq (head + 1) (length ps)) [
+        | inl e ↦
+            ap (λ (i : ℕ). held ps i (len - 1)) e
+            ∙ held-wrap (len - 1) (omega arith)
+            ∙ ap (λ (i : ℕ). held ps i (len - 1)) (sym (cond-true (eqb (head + 1) (length ps)) 0 (head + 1) (eq-eqb (head + 1) (length ps) e)))
+        | inr n ↦ ap (λ (i : ℕ). held ps i (len - 1)) (sym (cond-false (eqb (head + 1) (length ps)) 0 (head + 1) (ne-eqb (head + 1) (length ps) n)))
+      ])

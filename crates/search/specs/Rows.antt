@@ -2,7 +2,7 @@
 use Prim.Native.Nat.{ℕ, _+_, _<_, _≤_}
 use mathlib.Core.Path.{_≡_}
 use mathlib.Core.List.{List}
-use lib.ListN.{length, getD}
+use lib.ListN.{length, getD, set}
 use Rattle.std.specs.Holes.{between}
 use Rattle.search.specs.Graphs.{Mesh, incident}
 
@@ -17,6 +17,10 @@ Indexes starts entries m = (v : ℕ) → v < 64 → row starts entries v ≡ inc
 -- The count at each cabinet is that of the links that touch it.
 abbrev pub Counts : List ℕ → Mesh → Type 0
 Counts counts m = (v : ℕ) → v < 64 → getD counts v 0 ≡ length (incident m v)
+
+-- The list with one more at the place a.
+abbrev pub bumped : List ℕ → ℕ → List ℕ
+bumped xs a = set xs a (getD xs a 0 + 1)
 
 -- Each row's start leaves room for the rows before it, and all rows end within the entries.
 pub record Starts (starts : List ℕ) (m : Mesh) : Type 0 where

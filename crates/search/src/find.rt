@@ -1,12 +1,24 @@
 // The search, and what it writes into the caller's lists.
 ghost use mathlib.Core.Path.{_≡_};
 ghost use Prim.Native.Nat.{ℕ, _<_, _≤_};
-ghost use lib.ListN.{length, take, drop};
+ghost use lib.ListN.{length, set, take, drop};
 ghost use Rattle.search.specs.Paths.{Found};
 ghost use Rattle.search.specs.Spreads.{mark, chain, Told};
 use crate::ground::Ground;
 use crate::marks::Mark;
 use crate::spread::spread_from;
+
+// Writes the link that led to `at` to the place `left`, and tells the cabinet that it led from.
+fn step_back(marks: &[Mark], at: u8, path: &mut [u16], left: usize) -> u8
+    requires at { ⌜ at < length (now marks) ⌝ }
+    requires left { ⌜ left < length (now path) ⌝ }
+    ensures from { λ r. ⌜ r ≡ mark (now (marks .entry)) at .from ⌝ }
+    ensures path { λ _. ⌜ now (path .exit) ≡ set (now (path .entry)) left (mark (now (marks .entry)) at .over) ⌝ }
+{
+    let mark = marks[at as usize];
+    path[left] = mark.over;
+    mark.from
+}
 
 // Writes the path to `goal` to the front of `path`, and tells how many links it has.
 fn trace(marks: &[Mark], goal: u8, path: &mut [u16]) -> usize
@@ -23,9 +35,7 @@ fn trace(marks: &[Mark], goal: u8, path: &mut [u16]) -> usize
     let mut left = count;
     while left > 0 {
         left -= 1;
-        let mark = marks[at as usize];
-        path[left] = mark.over;
-        at = mark.from;
+        at = step_back(marks, at, path, left);
     }
     count
 }

@@ -1,10 +1,11 @@
 // A first-in-first-out queue over places that the caller lends.
 ghost use mathlib.Core.Path.{_≡_};
 ghost use mathlib.Core.List.{[]};
-ghost use Prim.Native.Nat.{ℕ, _-_, _≤_};
-ghost use lib.ListN.{length};
+ghost use Prim.Native.Nat.{ℕ, _-_, _<_, _≤_};
+ghost use lib.Dec.{eqb};
+ghost use lib.ListN.{length, getD};
 ghost use denote.Ref.{now, name};
-ghost use Rattle.search.specs.Rings.{held, Pushed, Written, Popped, Fronted};
+ghost use Rattle.search.specs.Rings.{held, after, behind, Pushed, Written, Popped, Fronted};
 
 // A ring: the items stand from `head` on, and go on from place 0 where they pass the end. The head is a place, if there is one.
 #[derive(Drop)]
@@ -14,6 +15,14 @@ pub struct Queue<'a, T> {
     len: usize,
     ghost starts: { head ≤ length (now places) - 1 },
     ghost fits: { len ≤ length (now places) },
+}
+
+// The item at a place.
+fn item_at<T: Copy>(places: &[T], place: usize) -> T
+    requires { ⌜ place < length (now places) ⌝ }
+    ensures { λ r. ⌜ r ≡ getD (now (places .entry)) place r ⌝ }
+{
+    places[place]
 }
 
 impl<'a, T: Copy> Queue<'a, T> {
@@ -32,6 +41,43 @@ impl<'a, T: Copy> Queue<'a, T> {
         }
     }
 
+    // Whether every place is taken.
+    fn is_full(&self) -> bool
+        ensures { λ r. ⌜ r ≡ eqb (now (self .entry) .len) (length (now (now (self .entry) .places))) ⌝ }
+    {
+        self.len == self.places.len()
+    }
+
+    // The place behind the last item.
+    fn free_place(&self) -> usize
+        requires { ⌜ now self .len < length (now (now self .places)) ⌝ }
+        ensures { λ r. ⌜ r ≡ behind (now (now (self .entry) .places)) (now (self .entry) .head) (now (self .entry) .len) ⌝ }
+    {
+        let room = self.places.len() - self.head;
+        if self.len < room {
+            self.head + self.len
+        } else {
+            self.len - room
+        }
+    }
+
+    // The place after the head.
+    fn next_head(&self) -> usize
+        requires { ⌜ 0 < length (now (now self .places)) ⌝ }
+        ensures { λ r. ⌜ r ≡ after (now (now (self .entry) .places)) (now (self .entry) .head) ⌝ }
+    {
+        let next = self.head + 1;
+        if next == self.places.len() { 0 } else { next }
+    }
+
+    // The item at the head.
+    fn at_head(&self) -> T
+        requires { ⌜ 0 < length (now (now self .places)) ⌝ }
+        ensures { λ r. ⌜ r ≡ getD (now (now (self .entry) .places)) (now (self .entry) .head) r ⌝ }
+    {
+        item_at(&self.places[0..self.places.len()], self.head)
+    }
+
     // Puts `item` last, or answers false where every place is taken.
     pub fn push(&mut self, item: T) -> bool
         ensures items { λ r. ⌜ Pushed (held (now (now (self .entry) .places)) (now (self .entry) .head) (now (self .entry) .len)) item r (held (now (now (self .exit) .places)) (now (self .exit) .head) (now (self .exit) .len)) (length (now (now (self .entry) .places))) ⌝ }
@@ -39,16 +85,11 @@ impl<'a, T: Copy> Queue<'a, T> {
         ensures room { λ _. ⌜ length (now (now (self .exit) .places)) ≡ length (now (now (self .entry) .places)) ⌝ }
         ensures lender { λ _. ⌜ name (now (self .exit) .places) ≡ name (now (self .entry) .places) ⌝ }
     {
-        if self.len == self.places.len() {
+        if self.is_full() {
             return false;
         }
-        let room = self.places.len() - self.head;
-        let at = if self.len < room {
-            self.head + self.len
-        } else {
-            self.len - room
-        };
-        self.places[at] = item;
+        let free = self.free_place();
+        self.places[free] = item;
         self.len += 1;
         true
     }
@@ -60,8 +101,7 @@ impl<'a, T: Copy> Queue<'a, T> {
         if self.len == 0 {
             return None;
         }
-        let places: &[T] = &self.places[0..self.places.len()];
-        Some(places[self.head])
+        Some(self.at_head())
     }
 
     // Takes the first item.
@@ -74,13 +114,8 @@ impl<'a, T: Copy> Queue<'a, T> {
         if self.len == 0 {
             return None;
         }
-        let front = self.head;
-        let item = self.places[front];
-        let head = if front + 1 == self.places.len() {
-            0
-        } else {
-            front + 1
-        };
+        let item = self.at_head();
+        let head = self.next_head();
         self.head = head;
         self.len -= 1;
         Some(item)

@@ -1,18 +1,24 @@
-use mathlib.Core.Path.{_≡_, refl, ap, _∙_}
-use Prim.Native.Nat.{ℕ, _+_}
-use mathlib.Core.List.{[], _∷_, _++_}
+use mathlib.Core.Path.{_≡_, refl, sym, ap, _∙_}
+use Prim.Native.Nat.{ℕ, _+_, _<_}
 use native.Mathlib.Omega.{arith}
-use borrow.Author.Needs.{needs}
 use lib.ListN.{length, set, length-set}
-use Rattle.search.specs.Rings.{held, behind}
+use Rattle.std.proofs.shelf.Tests.{eqb-true, eqb-false}
+use Rattle.search.specs.Rings.{held}
 use Rattle.search.proofs.Rings.{length-held, push-behind}
 use Rattle.search.proofs.queue.Queue.push.Needs as need
 
-pub returns-then-self : need.returns-then-self
-returns-then-self g c =
+pub free-place-free-requires : need.free-place-free-requires
+free-place-free-requires g c κs =
     let q = c .args .self .now in
+    let ne = eqb-false (q .len) (length (q .places .now)) (sym (c .if-is-full .ensures tt)) in
+    omega (arith, ne)
+
+pub returns-then-is-full : need.returns-then-is-full
+returns-then-is-full g c =
+    let q = c .args .self .now in
+    let full = eqb-true (q .len) (length (q .places .now)) (sym (c .if-is-full .ensures tt)) in
     record {
-      items = (refl, omega (arith, length-held (q .places .now) (q .head) (q .len) (omega arith) (q .fits)));
+      items = (refl, length-held (q .places .now) (q .head) (q .len) (omega arith) (q .fits) ∙ full);
       written = refl;
       room = refl;
       lender = refl;
@@ -22,12 +28,13 @@ pub returns : need.returns
 returns g c =
     let q = c .args .self .now in
     let ps = q .places .now in
-    let at = c .if-self-room .at in
-    let here : at ≡ behind ps (q .head) (q .len) = search needs in
-    let put = push-behind ps (q .head) (q .len) (c .args .item) (omega arith) (omega arith) in
+    let x = c .args .item in
+    let ne = eqb-false (q .len) (length ps) (sym (c .if-is-full .ensures tt)) in
+    let lt : q .len < length ps = omega (arith, ne) in
+    let here = c .free-place-free .ensures in
     record {
-      items = (ap (λ (i : ℕ). held (set ps i (c .args .item)) (q .head) (q .len + 1)) here ∙ put, omega (arith, length-held ps (q .head) (q .len) (omega arith) (q .fits)));
-      written = ap (λ (i : ℕ). set ps i (c .args .item)) here;
-      room = length-set ps at (c .args .item);
+      items = (ap (λ (i : ℕ). held (set ps i x) (q .head) (q .len + 1)) here ∙ push-behind ps (q .head) (q .len) x (omega arith) lt, omega (arith, length-held ps (q .head) (q .len) (omega arith) (q .fits), lt));
+      written = ap (λ (i : ℕ). set ps i x) here;
+      room = length-set ps _ x;
       lender = refl;
     }
