@@ -1,10 +1,9 @@
 -- A proposal has no flaw exactly when its lists fit and it is held with its two sides.
 use mathlib.Core.Path.{_≡_, refl, sym, _∙_, ap, ap₂, subst}
-use mathlib.Core.Bool.{Bool, true, false, cond, _&&_}
+use mathlib.Core.Bool.{Bool, true, false}
 use mathlib.Core.List.{List, [], _∷_, map}
 use Prim.Native.Nat.{ℕ, _+_, _≤_, _<_}
 use native.Mathlib.Omega.{arith}
-use lib.Dec.{eqb, leb}
 use lib.IntN.{ℤ, pos, natAbs}
 use lib.ListN.{length, getD}
 use Rattle.std.specs.Orderings.{Decides}
@@ -18,11 +17,11 @@ use Rattle.flow.specs.declared.pairs.Pairs.{Pairs}
 use Rattle.flow.specs.Ranges.{cabinets}
 use Rattle.flow.specs.Nets.{members, side-slots}
 use Rattle.flow.specs.Plans.{Shared, Conserved, Held, total-one, sum-of}
-use Rattle.flow.specs.Tests.{all-below, equal, is-first-side, is-sum-side, is-kept, is-conserved}
+use Rattle.flow.specs.Tests.{equal, is-first-side, is-sum-side, is-kept, is-conserved}
 use Rattle.flow.proofs.Deciding.{equal-decides, below-decides, first-side-decides, sum-side-decides, conserved-decides}
 use Rattle.plan.specs.declared.flaw.Flaw.{Flaw}
 use Rattle.plan.specs.declared.flaw.Flaw.the-variants.{Lengths, Over, Broken, SumSide, FirstSide, Sum, First}
-use Rattle.plan.specs.Judging.{unless, flaw-at, lowest-failing, are-fitting, fits-at, lowest-broken, weighed, judged}
+use Rattle.plan.specs.Judging.{unless, flaw-at, lowest-failing, are-fitting, fits-at, lowest-broken, judged}
 use Rattle.plan.specs.Laws.{Fitting}
 use Rattle.plan.proofs.Finding.{neither, none-all, all-none}
 

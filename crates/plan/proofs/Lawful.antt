@@ -1,17 +1,17 @@
 -- What lawful links give: ends that are cabinets, halves that double, and limits that a job may have.
 use mathlib.Core.Path.{_≡_, sym, subst}
 use mathlib.Core.List.{List, [], _∷_, map}
-use Prim.Native.Nat.{ℕ, zero, suc, _+_, _*_, _/_, _%_, _≤_, _<_}
+use Prim.Native.Nat.{ℕ, suc, _+_, _*_, _/_, _%_, _≤_, _<_}
 use native.Mathlib.Nat.{mul-suc}
 use native.Mathlib.Omega.{arith}
 use lib.ListN.{length, getD}
 use Rattle.std.proofs.shelf.Lists.{length-map, getD-map}
-use Rattle.flow.specs.Ranges.{cabinets, most-links, most-slots, most-limit, most-fed}
+use Rattle.flow.specs.Ranges.{cabinets, most-slots, most-limit, most-fed}
 use Rattle.flow.specs.Nets.{total, Inside}
 use Rattle.flow.specs.Drawings.{Doubled}
 use Rattle.engine.specs.declared.arc.Arc.{Arc}
 use Rattle.engine.specs.Arcs.{Sound, All-sound}
-use Rattle.plan.specs.Links.{Lawful, Lawful-links}
+use Rattle.plan.specs.Links.{Lawful-links}
 use Rattle.plan.specs.Halves.{half, half-arc}
 
 -- a total of limits is at most as many times the greatest
@@ -25,7 +25,7 @@ total-most limit m (l ∷ ls) h = times m (length ls) (limit l) (total limit ls)
 doubled : (n : ℕ) → n % 2 ≡ 0 → 2 * (n / 2) ≡ n
 doubled n e = omega arith
 
-halved-most : (n : ℕ) → n ≤ 1048576 → n / 2 ≤ 524288
+halved-most : (n : ℕ) → n ≤ most-slots → n / 2 ≤ most-limit
 halved-most n h = omega arith
 
 module _ {X : Type 0} (low high capacity : X → ℕ) (ls : List X) (w : Lawful-links low high capacity ls) where

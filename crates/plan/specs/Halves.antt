@@ -21,7 +21,7 @@ half capacity l = capacity l / 2
 
 -- the link of a job, with half the slots as its limit
 abbrev pub half-arc : {X : Type 0} → (low high capacity : X → ℕ) → X → Arc
-half-arc low high capacity l = record { tail = low l; head = high l; limit = capacity l / 2 }
+half-arc low high capacity l = record { tail = low l; head = high l; limit = half capacity l }
 
 -- what an engine answered, with the side as a list
 abbrev pub answer : List ℤ → Taps ℕ → List Bool → Answer

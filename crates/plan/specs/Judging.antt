@@ -1,5 +1,4 @@
 -- The first flaw of a proposed plan: shares `fs` of stream 1 and `gs` of stream 2, with a cut and a first side.
-use mathlib.Core.Path.{_≡_}
 use mathlib.Core.List.{List, map}
 use mathlib.Core.Bool.{Bool, cond, _&&_}
 use Prim.Native.Nat.{ℕ, zero, suc, _+_}

@@ -15,7 +15,7 @@ use Rattle.plan.specs.Links.{Lawful-links}
 use Rattle.plan.specs.Halves.{half}
 use Rattle.plan.specs.Judging.{judged}
 
--- the share lists are as long as the links, and the side lists have a place for every cabinet
+-- what the test of the lists' lengths tells
 pub record Fitting {X : Type 0} (ls : List X) (fs gs : List ℤ) (cut first : List Bool) : Type 0 where
   pub ones : length fs ≡ length ls
   pub twos : length gs ≡ length ls

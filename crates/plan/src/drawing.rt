@@ -1,6 +1,6 @@
 // Drawing a plan: five jobs for an engine, and the shares made of the last two flows.
 ghost use mathlib.Core.Path.{_≡_};
-ghost use Prim.Native.Nat.{ℕ, _+_, _-_, _≤_, min};
+ghost use Prim.Native.Nat.{_+_, _-_, _≤_, min};
 ghost use lib.ListN.{length, take, drop};
 ghost use Rattle.flow.specs.Ranges.{cabinets, most-links};
 ghost use Rattle.flow.specs.Nets.{members};

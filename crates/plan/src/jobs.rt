@@ -1,6 +1,5 @@
 // The jobs of a drawing.
 ghost use mathlib.Core.Path.{_≡_};
-ghost use Prim.Native.Nat.{ℕ};
 ghost use Rattle.flow.specs.Ranges.{cabinets};
 ghost use Rattle.flow.specs.Plans.{Proper};
 ghost use Rattle.flow.specs.Drawings.{turned, ends-of, both-of, Answered};

@@ -1,10 +1,10 @@
 // Judging a proposed plan: the first flaw, if it has any.
 ghost use mathlib.Core.Path.{_≡_};
 ghost use mathlib.Core.Bool.{not};
-ghost use Prim.Native.Nat.{ℕ, _≤_, _<_};
-ghost use lib.IntN.{pos, _+ℤ_};
+ghost use Prim.Native.Nat.{_≤_};
+ghost use lib.IntN.{pos};
 ghost use lib.ListN.{length};
-ghost use Rattle.flow.specs.Ranges.{cabinets, most-links};
+ghost use Rattle.flow.specs.Ranges.{most-links};
 ghost use Rattle.flow.specs.Nets.{members, side-slots};
 ghost use Rattle.flow.specs.Tests.{equal, shares-fit};
 ghost use Rattle.plan.specs.Judging.{are-fitting, lowest-failing, fits-at, keeps-in, lowest-broken, weighed, judged};

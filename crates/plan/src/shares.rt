@@ -1,6 +1,6 @@
 // The shares of the two streams, made of two flows.
 ghost use mathlib.Core.Path.{_≡_};
-ghost use Prim.Native.Nat.{ℕ, _≤_};
+ghost use Prim.Native.Nat.{_≤_};
 ghost use lib.IntN.{_+ℤ_, _-ℤ_, natAbs};
 ghost use lib.ListN.{length, drop};
 ghost use Rattle.flow.specs.Ranges.{most-links, most-limit};

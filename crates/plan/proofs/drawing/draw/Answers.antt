@@ -3,7 +3,6 @@ use mathlib.Core.List.{List, map}
 use Prim.Native.Nat.{ℕ, _-_}
 use native.Mathlib.Nat.{sub-zero}
 use native.Mathlib.Omega.{arith}
-use lib.IntN.{ℤ}
 use lib.ListN.{length, take, drop}
 use Rattle.std.proofs.shelf.Lists.{length-map}
 use Rattle.flow.specs.Nets.{members}
