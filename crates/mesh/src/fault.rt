@@ -9,6 +9,18 @@ pub enum Fault {
     Full,
     NoLink,
     NoTrial,
+    // A sheet lacks what was asked of it.
+    Sheet(Missing),
+}
+
+// What a sheet lacks: a held plan, the link, the cabinet or the stream that was asked for, or room for a route in the caller's list.
+#[derive(Clone, Copy)]
+pub enum Missing {
+    Plan,
+    Link,
+    Cabinet,
+    Stream,
+    Room,
 }
 
 // The place of check that a fault names.
@@ -16,6 +28,7 @@ pub enum Fault {
 pub enum Layer {
     Order,
     Book,
+    Sheet,
 }
 
 pub mod tell;

@@ -1,5 +1,6 @@
 ghost use mathlib.Core.Path.{_≡_};
-ghost use Rattle.mesh.specs.Links.{between};
+ghost use Rattle.mesh.specs.Links.{between, low-of, high-of, capacity-of};
+use flow::edge::Edge;
 
 // A link as the book's list holds it: plain numbers. A cabinet is a number below 64,
 // and slots are the shares of radio time that a link has to give.
@@ -20,5 +21,25 @@ impl Row {
             high: one.max(other),
             slots,
         }
+    }
+}
+
+pub impl Edge for Row as RowEdge {
+    ghost low = { low-of };
+
+    ghost high = { high-of };
+
+    ghost capacity = { capacity-of };
+
+    fn low(&self) -> u8 {
+        self.low
+    }
+
+    fn high(&self) -> u8 {
+        self.high
+    }
+
+    fn capacity(&self) -> u32 {
+        self.slots
     }
 }

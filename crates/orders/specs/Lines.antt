@@ -4,7 +4,7 @@ use Prim.Native.Nat.{ℕ}
 use lib.Chars.{codes}
 use Rattle.std.specs.Written.{decimal}
 use Rattle.mesh.specs.declared.fault.Layer.{Layer}
-use Rattle.mesh.specs.declared.fault.Layer.the-variants.{Order, Book}
+use Rattle.mesh.specs.declared.fault.Layer.the-variants.{Order, Book, Sheet}
 use Rattle.mesh.specs.Faults.{number, layer}
 use Rattle.orders.specs.declared.kind.Kind.{Kind}
 use Rattle.orders.specs.declared.line.Line.{Line}
@@ -20,6 +20,7 @@ mark-text kind = entry kind .first ∷ entry kind .second ∷ []
 abbrev pub layer-text : Layer → List ℕ
 layer-text Order = codes "order"
 layer-text Book = codes "book"
+layer-text Sheet = codes "sheet"
 
 -- The most bytes that an order file may have.
 abbrev pub most-bytes : ℕ

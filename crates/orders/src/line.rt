@@ -66,6 +66,7 @@ fn layer_text(layer: Layer) -> &'static str
     match layer {
         Layer::Order => "order",
         Layer::Book => "book",
+        Layer::Sheet => "sheet",
     }
 }
 

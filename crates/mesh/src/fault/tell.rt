@@ -1,7 +1,23 @@
 ghost use mathlib.Core.Path.{_≡_};
-ghost use Rattle.mesh.specs.Faults.{number, place, layer};
+ghost use Rattle.mesh.specs.Faults.{number, missing-number, place, layer};
 use crate::fault::Fault;
 use crate::fault::Layer;
+use crate::fault::Missing;
+
+impl Missing {
+    // The number by which a sheet reports what it lacks.
+    pub fn number(self) -> u8
+        ensures { λ r. ⌜ r ≡ missing-number self ⌝ }
+    {
+        match self {
+            Missing::Plan => 30,
+            Missing::Link => 27,
+            Missing::Cabinet => 22,
+            Missing::Stream => 32,
+            Missing::Room => 31,
+        }
+    }
+}
 
 impl Fault {
     // The number by which the fault is reported.
@@ -17,6 +33,7 @@ impl Fault {
             Fault::Full => 26,
             Fault::NoLink => 27,
             Fault::NoTrial => 29,
+            Fault::Sheet(missing) => missing.number(),
         }
     }
 
@@ -32,7 +49,8 @@ impl Fault {
             | Fault::Linked
             | Fault::Full
             | Fault::NoLink
-            | Fault::NoTrial => 0,
+            | Fault::NoTrial
+            | Fault::Sheet(_) => 0,
         }
     }
 
@@ -44,6 +62,7 @@ impl Fault {
             Fault::Cabinet | Fault::Ends | Fault::Slots => Layer::Order,
             Fault::TrialStands | Fault::Linked | Fault::Full | Fault::NoLink | Fault::NoTrial =>
                 Layer::Book,
+            Fault::Sheet(_) => Layer::Sheet,
         }
     }
 }
