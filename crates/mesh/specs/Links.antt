@@ -21,12 +21,14 @@ Keeps-rule r = (r .low < r .high) × (r .high < 64) × (r .slots % 2 ≡ 0) × (
 abbrev pub bad-slots : ℕ → Bool
 bad-slots n = not (eqb (n % 2) 0) || ltb 1048576 n
 
--- a link's lower cabinet, its higher cabinet and its slots
+-- a link's lower cabinet
 abbrev pub low-of : Row → ℕ
 low-of r = r .low
 
+-- a link's higher cabinet
 abbrev pub high-of : Row → ℕ
 high-of r = r .high
 
+-- a link's slots
 abbrev pub capacity-of : Row → ℕ
 capacity-of r = r .slots

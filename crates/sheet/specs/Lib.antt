@@ -1,0 +1,4 @@
+pub mod Routes
+pub mod Grounds
+pub mod Readings
+pub mod Sheets
