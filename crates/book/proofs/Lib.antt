@@ -4,3 +4,4 @@ mod Linking
 mod Pasts
 mod Holding
 mod Laws
+mod Sheeting

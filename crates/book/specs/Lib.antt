@@ -4,3 +4,4 @@ pub mod Ledgers
 pub mod Books
 pub mod Receipts
 pub mod Law
+pub mod Sheets

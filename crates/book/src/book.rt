@@ -12,3 +12,4 @@ pub struct Book {
 pub mod calls;
 pub mod plans;
 pub mod reads;
+pub mod sheets;
