@@ -10,7 +10,11 @@ use Rattle.std.specs.declared.result.Result.{Result}
 use Rattle.std.specs.declared.result.Result.the-variants.{Ok, Err}
 use Rattle.mesh.specs.declared.fault.Fault.{Fault}
 use Rattle.book.specs.History.{State, Call, Step}
-use Rattle.book.specs.History.Call.{Add as add-call, Resize as resize-call, Drop as drop-call, Name as name-call}
+use Rattle.book.specs.History.Call.{Add as add-call, Resize as resize-call, Drop as drop-call, Name as name-call, Draw as draw-call}
+use Rattle.book.specs.Sheets.{reading}
+use Rattle.sheet.specs.declared.answers.Totals.{Totals}
+use Rattle.sheet.specs.Readings.{Answers, Totalled}
+use Rattle.sheet.specs.Readings.Request.{Total}
 use Rattle.orders.specs.declared.kind.Kind.{Kind}
 use Rattle.orders.specs.declared.line.Line.{Line}
 use Rattle.orders.specs.declared.line.Line.the-variants as lines
@@ -31,13 +35,22 @@ answer-line n kind at (Err fault) = lines.Refused n kind fault at
 abbrev pub Called : ℕ → Kind → ℕ → State → Call → Line → State → Type 0
 Called n kind at s call line t = (r : Result (Unit {0}) Fault) × Step s call r t × (line ≡ answer-line n kind at r)
 
--- An order was carried out: each makes its call on the book, but a plan cannot be drawn yet and changes nothing.
+-- The line of a draw, with the totals that a sheet of the book tells.
+abbrev pub Planned-line : ℕ → ℕ → Result (Unit {0}) Fault → State → Line → Type 0
+Planned-line n at (Ok _) t line = (totals : Totals) × Answers (reading t) Total Totalled (Ok totals) × (line ≡ lines.Planned n totals)
+Planned-line n at (Err fault) t line = line ≡ lines.Refused n (asked Draw) fault at
+
+-- A plan was drawn on the book, with whatever engine, and the line tells the totals of the plan that is now held; or it was refused.
+abbrev pub Planned : ℕ → ℕ → State → Line → State → Type 0
+Planned n at s line t = (r : Result (Unit {0}) Fault) × Step s draw-call r t × Planned-line n at r t line
+
+-- An order was carried out: each makes its call on the book.
 abbrev pub Carried : ℕ → ℕ → State → Order → Line → State → Type 0
 Carried n at s (Add a b slots) line t = Called n (asked (Add a b slots)) at s (add-call a b slots) line t
 Carried n at s (Resize link slots) line t = Called n (asked (Resize link slots)) at s (resize-call link slots) line t
 Carried n at s (Drop link) line t = Called n (asked (Drop link)) at s (drop-call link) line t
 Carried n at s (Name pairs) line t = Called n (asked (Name pairs)) at s (name-call pairs) line t
-Carried n at s Draw line t = (line ≡ lines.Unplanned n) × (t ≡ s)
+Carried n at s Draw line t = Planned n at s line t
 
 -- The records of a file carried out in turn, a line for each: orders count from 1, and a record's place is where the ones before it end.
 pub data Tells (s : State) : List (Item Kind) → List Line → State → Type 0 where

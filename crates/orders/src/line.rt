@@ -8,6 +8,7 @@ use crate::kind::Kind;
 use crate::record::RecordFault;
 use mesh::fault::Fault;
 use mesh::fault::Layer;
+use sheet::answers::Totals;
 use std::alloc::AllocError;
 use std::fmt;
 
@@ -29,9 +30,10 @@ pub enum Line {
         fault: Fault,
         at: usize,
     },
-    // The order asks for a plan, which this version cannot draw.
-    Unplanned {
+    // A plan was drawn and is held, with these totals.
+    Planned {
         order: usize,
+        totals: Totals,
     },
     // The file was read to its end.
     End {
@@ -91,7 +93,10 @@ pub impl fmt::Display for Line as LineDisplay {
                 let layer = layer_text(fault.layer());
                 write!(f, "{order} {mark} {number} at {at} {layer}")
             }
-            Line::Unplanned { order } => write!(f, "{order} PL planning is not there yet"),
+            Line::Planned { order, totals } => {
+                let Totals { sum, one, two } = totals;
+                write!(f, "{order} PL ok {sum} {one} {two}")
+            }
             Line::End { orders } => write!(f, "end {orders}"),
             Line::Unread { fault, at } => {
                 let number = fault.number();

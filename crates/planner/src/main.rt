@@ -1,5 +1,9 @@
 // Runs the order file on standard input, and prints a line for each order.
+use augmenting::augmenting::Augmenting;
+use augmenting::augmenting::AugmentingEngine;
 use book::book::Book;
+use engine::trim::Trim;
+use engine::trim::TrimEngine;
 use orders::line::MOST_BYTES;
 use orders::run::run;
 use std::io;
@@ -12,6 +16,7 @@ fn main(rt: LibcRuntime) -> io::Result<()> {
     let mut input = rt.stdin().take(MOST_BYTES as u64 + 1);
     let _ = input.read_to_end(&mut file)?;
     let mut book = Book::open(heap)?;
-    let text = run(heap, &mut book, file.as_slice())?;
+    let mut engine = Trim { below: Augmenting };
+    let text = run(heap, &mut book, &mut engine, file.as_slice())?;
     rt.print(text.as_str())
 }

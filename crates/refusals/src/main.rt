@@ -1,4 +1,6 @@
 // Runs order files that are short, damaged, at a limit or refused, each on a new book, and prints what is told.
+use augmenting::augmenting::Augmenting;
+use augmenting::augmenting::AugmentingEngine;
 use book::book::Book;
 use orders::line::MOST_BYTES;
 use orders::run::run;
@@ -119,7 +121,8 @@ const CASES: [Case; 25] = [
 // What is told of a file that is run on a new book.
 fn told(heap: Global, file: &[u8]) -> Result<String, AllocError> {
     let mut book = Book::open(heap)?;
-    run(heap, &mut book, file)
+    let mut engine = Augmenting;
+    run(heap, &mut book, &mut engine, file)
 }
 
 // A file of as many bytes as are asked for, full of orders without a body.

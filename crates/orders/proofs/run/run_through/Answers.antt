@@ -13,17 +13,17 @@ use Rattle.orders.proofs.run.run_through.Needs as need
 
 -- Nothing has been told of an empty part.
 pub loop-order-holds : need.loop-order-holds
-loop-order-holds c = (c .new-reader .ensures .file, told-none _ _ _ _ (c .new-reader .ensures .place) (c .new-text .ensures .bytes))
+loop-order-holds g c = (c .new-reader .ensures .file, told-none _ _ _ _ (c .new-reader .ensures .place) (c .new-text .ensures .bytes))
 
 -- There are at most half as many orders as bytes.
 pub add-orders : need.add-orders
-add-orders c =
+add-orders g c =
     let so = c .loop-order .inv in
     omega (arith, counted _ _ (so .1) (so .0) (c .loop-order .reader .within))
 
 -- Each order takes some bytes.
 pub loop-order-less : need.loop-order-less
-loop-order-less c =
+loop-order-less g c =
     let so = c .loop-order .inv in
     let read = c .in-Ok .ensures tt in
     let long = ap length (read .file ∙ so .0) in
@@ -31,7 +31,7 @@ loop-order-less c =
 
 -- One order more was read, carried out and told.
 pub loop-order-again : need.loop-order-again
-loop-order-again c =
+loop-order-again g c =
     let so = c .loop-order .inv in
     let read = c .in-Ok .ensures tt in
     let carried = subst (λ (at : ℕ). Carried (c .loop-order .orders + 1) at (view (c .loop-order .book)) (c .in-Ok .order) (c .carry-out .result) (view (c .carry-out .last .book))) (c .place-at .ensures) (c .carry-out .ensures) in
@@ -39,7 +39,7 @@ loop-order-again c =
 
 -- The last line was told.
 pub returns : need.returns
-returns c =
+returns g c =
     let so = c .loop-order .inv in
     let read = c .in-Err .ensures tt in
     let stays : c .place .result ≡ c .loop-order .reader .place = omega (arith, c .place .ensures, read .place, taken-none _ _ (read .read)) in

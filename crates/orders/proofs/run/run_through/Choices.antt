@@ -10,8 +10,8 @@ use Rattle.orders.proofs.Telling.{Told-so-far}
 use Rattle.orders.proofs.run.run_through.Given as given
 
 abbrev pub Inv-loop-order : given.InvT-loop-order
-Inv-loop-order l =
+Inv-loop-order g l =
     (now (l .reader .file) ≡ l .file) × Told-so-far (view (l .entry .book)) (l .file) (l .reader .place) (l .orders) (string-bytes (l .text)) (view (l .book))
 
 abbrev pub μ-loop-order : given.MeasureT-loop-order
-μ-loop-order l = length (l .file) - l .reader .place
+μ-loop-order g l = length (l .file) - l .reader .place
