@@ -40,7 +40,7 @@ fn seek<'a>(
     requires some { ⌜ 0 < most ⌝ }
     ensures { λ r. ⌜ Sought (links-in (now (network .entry))) (now (flow .entry)) from to most r (now (path .exit)) (now (side .exit)) ⌝ }
 {
-    let ground = Residual::new(network, flow);
+    let ground = Residual { network, flow };
     match find_path(&ground, from, to, path, side) {
         Some(count) => {
             let by = least_free(&ground, from, &path[0..count], most);

@@ -13,7 +13,7 @@ ghost use Rattle.search.specs.Graphs.{across};
 ghost use Rattle.search.specs.Paths.{OpenPath, destination};
 ghost use Rattle.residual.specs.Meshes.{mesh-of, ahead, toward, residual};
 ghost use Rattle.residual.specs.Networks.{links-in};
-ghost use Rattle.residual.specs.Raising.{Route, Moved};
+ghost use Rattle.residual.specs.Raising.{least, Route, Moved};
 use crate::residual::Residual;
 use engine::arc::Arc;
 use engine::job::Job;
@@ -25,6 +25,7 @@ fn far_end(arc: Arc, at: u8) -> u8
     if arc.tail == at { arc.head } else { arc.tail }
 }
 
+// The lesser of two amounts.
 fn lesser(a: u32, b: u32) -> u32
     ensures { λ r. ⌜ r ≡ min a b ⌝ }
 {
@@ -33,17 +34,14 @@ fn lesser(a: u32, b: u32) -> u32
 
 // The least of `most` and what is free on each link of a path of open steps.
 pub fn least_free(ground: &Residual<'_>, from: u8, path: &[u16], most: u32) -> u32
-    requires some { ⌜ 0 < most ⌝ }
-    requires path { ⌜ OpenPath (residual (links-in (now (now ground .network))) (now (now ground .flow)) 1) from (now path) ⌝ }
-    ensures low { λ r. ⌜ r ≤ most ⌝ }
-    ensures some { λ r. ⌜ 0 < r ⌝ }
-    ensures room { λ r. ⌜ OpenPath (residual (links-in (now (now (ground .entry) .network))) (now (now (ground .entry) .flow)) r) from (now (path .entry)) ⌝ }
+    requires { ⌜ OpenPath (residual (links-in (now (now ground .network))) (now (now ground .flow)) 1) from (now path) ⌝ }
+    ensures { λ r. ⌜ r ≡ least (links-in (now (now (ground .entry) .network))) (now (now (ground .entry) .flow)) from (now (path .entry)) most ⌝ }
 {
     let mut by = most;
-    let mut at = from;
+    let mut cabinet = from;
     for link in path {
-        by = lesser(by, ground.free(at, *link));
-        at = far_end(ground.network.job.links()[*link as usize], at);
+        by = lesser(by, ground.free(cabinet, *link));
+        cabinet = far_end(ground.network.job.links()[*link as usize], cabinet);
     }
     by
 }
