@@ -1,7 +1,7 @@
 // Runs a pile of layers, Trim over Trim over augmenting paths, beside the bare engine, and prints each job's total.
 use augmenting::augmenting::Augmenting;
 use augmenting::augmenting::AugmentingEngine;
-use engine::greatest::both_totals;
+use engine::greatest::greatest_total;
 use engine::trim::Trim;
 use engine::trim::TrimEngine;
 use samples::jobs::Shape;
@@ -36,7 +36,8 @@ fn main(rt: LibcRuntime) -> io::Result<()> {
     for number in 0..36u8 {
         match next_job(&mut random, shape_of(number)) {
             Some(job) => {
-                let (piled, bare) = both_totals(&mut pile, &mut Augmenting, &job);
+                let piled = greatest_total(&mut pile, &job);
+                let bare = greatest_total(&mut Augmenting, &job);
                 println!(
                     rt,
                     "{number}: {piled} fed by the pile, {bare} by the engine alone"
