@@ -21,20 +21,20 @@ use Rattle.engine.specs.Jobs.{links-of}
 use Rattle.engine.specs.Totals.{Feasible-flow}
 use Rattle.residual.specs.Grounds.{job-lawful}
 use Rattle.residual.specs.Meshes.{residual}
-use Rattle.residual.specs.Raising.{Route, Moved}
-use Rattle.residual.proofs.Raising.{route-of}
+use Rattle.residual.specs.Raising.{least, Route, Moved}
+use Rattle.residual.proofs.Raising.{route-of, least-most, least-some, least-open}
 use Rattle.augmenting.specs.declared.pairs.Pair.{Pair}
 use Rattle.augmenting.specs.declared.pairs.Which.{Which}
 use Rattle.augmenting.specs.declared.pairs.Which.the-variants.{First, Second}
 use Rattle.augmenting.specs.Pairs.{feed-of, drain-of, sent}
 use Rattle.augmenting.specs.Sending.{unfed}
 
--- the route of a path that was found on a ground with this job's links and this flow
-pub found-route : (j : Job) (ls : List Arc) (fs gs : List ℤ) (x u : ℕ) (part path : List ℕ) (n w : ℕ) → ls ≡ links-of j → gs ≡ fs → SimplePath (residual ls gs 1) u (take n path) w → part ≡ take n path → OpenPath (residual ls gs x) u part → Route (links-of j) fs x u (take n path) w
-found-route j ls fs gs x u part path n w a b p e o =
-    route-of (links-of j) fs x u (take n path) w (job-lawful j)
-    (subst (λ k. SimplePath (residual k fs 1) u (take n path) w) a (subst (λ f. SimplePath (residual ls f 1) u (take n path) w) b p))
-    (subst (λ k. OpenPath (residual k fs x) u (take n path)) a (subst (λ f. OpenPath (residual ls f x) u (take n path)) b (subst (OpenPath (residual ls gs x) u) e o)))
+-- a path that was found, and the least that is free on it, are an augmentation
+pub found-route : (j : Job) (fs : List ℤ) (u w most : ℕ) (path part : List ℕ) (n x : ℕ) → part ≡ take n path → x ≡ least (links-of j) fs u part most → 0 < most → SimplePath (residual (links-of j) fs 1) u (take n path) w → n < 64 → Route (links-of j) fs x u (take n path) w × (0 < x) × (x ≤ most) × (n ≤ 64)
+found-route j fs u w most path part n x e q some p short =
+    let is : x ≡ least (links-of j) fs u (take n path) most = q ∙ ap (λ k. least (links-of j) fs u k most) e in
+    let o = p .open-steps in
+    (route-of (links-of j) fs x u (take n path) w (job-lawful j) p (least-open (links-of j) fs u (take n path) most x (omega (arith, is)) o), omega (arith, is, least-some (links-of j) fs u (take n path) most some o), omega (arith, is, least-most (links-of j) fs u (take n path) most), omega arith)
 
 only-add : (b : Bool) (m n : ℕ) → only b (pos (m + n)) ≡ only b (pos m) +ℤ only b (pos n)
 only-add true m n = refl

@@ -23,3 +23,7 @@ pub record Greatest (j : Job) (x : ℕ) : Type 0 where
   pub feasible : Feasible-flow j flow amount
   pub fed : amount .feed1 + amount .feed2 ≡ x
   pub most : (fs : List ℤ) (other : Taps ℕ) → Feasible-flow j fs other → other .feed1 + other .feed2 ≤ x
+
+-- a job has only one greatest total
+abbrev pub One-greatest : Type 0
+One-greatest = (j : Job) (x y : ℕ) → Greatest j x → Greatest j y → x ≡ y

@@ -1,4 +1,4 @@
--- The steps of the two loops along a path: the least free amount, and the flow raised.
+-- The least free amount of a path, and the steps of the loop that raises the flow along it.
 use mathlib.Core.Path.{_≡_, refl, sym, ap, _∙_, subst}
 use mathlib.Core.Logic.{_⊎_, inl, inr}
 use mathlib.Core.Bool.{Bool, true, false, cond}
@@ -24,14 +24,7 @@ use Rattle.search.proofs.Once.{links-once}
 use Rattle.engine.specs.declared.arc.Arc.{Arc}
 use Rattle.engine.specs.Arcs.{blank, tail-of, head-of, limit-of, All-sound}
 use Rattle.residual.specs.Meshes.{mesh-of, ahead, toward, room-on, free, residual}
-use Rattle.residual.specs.Raising.{Route, Moved}
-
--- the least free amount on the way to `at` is x, and the links of `rest` are to come
-pub record Gauged (ls : List Arc) (fs : List ℤ) (most x u : ℕ) (path : List ℕ) (at : ℕ) (rest : List ℕ) : Type 0 where
-  pub low : x ≤ most
-  pub some : 0 < x
-  pub steps : OpenPath (residual ls fs 1) at rest
-  pub so : (y : ℕ) → y ≤ x → OpenPath (residual ls fs y) at rest → OpenPath (residual ls fs y) u path
+use Rattle.residual.specs.Raising.{least, Route, Moved}
 
 -- the flow was raised by x from u to `at`, and the links of `rest` are to come
 pub record Onward (ls : List Arc) (was fs : List ℤ) (x u at w : ℕ) (rest : List ℕ) : Type 0 where
@@ -43,22 +36,33 @@ pub raise-fits : (b : Bool) (limit x : ℕ) (f : ℤ) → natAbs f ≤ limit →
 raise-fits true limit x f h k = omega (arith, whole)
 raise-fits false limit x f h k = omega (arith, whole)
 
-pub gauge-none : (ls : List Arc) (fs : List ℤ) (most u : ℕ) (path : List ℕ) → 0 < most → OpenPath (residual ls fs 1) u path → Gauged ls fs most most u path u path
-gauge-none ls fs most u path h o = record { low = omega arith; some = h; steps = o; so = λ y q r. r }
+-- what is least is at most x, above 0 on a path of open steps, and free on each link of it
+pub least-most : (ls : List Arc) (fs : List ℤ) (u : ℕ) (path : List ℕ) (x : ℕ) → least ls fs u path x ≤ x
+least-most ls fs u [] x = omega arith
+least-most ls fs u (l ∷ path) x = omega (arith, least-most ls fs (across (mesh-of ls) u l) path (min x (free ls fs u l)))
 
--- one link more is gauged
-pub gauge-more : (ls : List Arc) (fs : List ℤ) (most x u : ℕ) (path : List ℕ) (at l : ℕ) (rest : List ℕ) (y at′ : ℕ) → Gauged ls fs most x u path at (l ∷ rest) → y ≡ min x (free ls fs at l) → at′ ≡ across (mesh-of ls) at l → Gauged ls fs most y u path at′ rest
-gauge-more ls fs most x u path at l rest y at′ g e q =
-    let step : Step (residual ls fs 1) at l = g .steps .0 in
-    let low = g .low in
-    let some = g .some in
-    let clear : 1 ≤ free ls fs at l = leb-true 1 (free ls fs at l) (step .clear) in
-    record {
-      low = omega arith;
-      some = omega arith;
-      steps = subst (λ a. OpenPath (residual ls fs 1) a rest) (sym q) (g .steps .1);
-      so = λ z k r. g .so z (omega arith) (record { listed = step .listed; touching = step .touching; clear = le-leb z (free ls fs at l) (omega arith) }, subst (λ a. OpenPath (residual ls fs z) a rest) q r);
-    }
+pub least-some : (ls : List Arc) (fs : List ℤ) (u : ℕ) (path : List ℕ) (x : ℕ) → 0 < x → OpenPath (residual ls fs 1) u path → 0 < least ls fs u path x
+least-some ls fs u [] x h o = h
+least-some ls fs u (l ∷ path) x h o =
+    let clear : 1 ≤ free ls fs u l = leb-true 1 (free ls fs u l) (o .0 .clear) in
+    least-some ls fs (across (mesh-of ls) u l) path (min x (free ls fs u l)) (omega arith) (o .1)
+
+pub least-open : (ls : List Arc) (fs : List ℤ) (u : ℕ) (path : List ℕ) (x y : ℕ) → y ≤ least ls fs u path x → OpenPath (residual ls fs 1) u path → OpenPath (residual ls fs y) u path
+least-open ls fs u [] x y h o = tt
+least-open ls fs u (l ∷ path) x y h o =
+    let low = least-most ls fs (across (mesh-of ls) u l) path (min x (free ls fs u l)) in
+    (record { listed = o .0 .listed; touching = o .0 .touching; clear = le-leb y (free ls fs u l) (omega arith) }, least-open ls fs (across (mesh-of ls) u l) path (min x (free ls fs u l)) y h (o .1))
+
+-- the next link stands in front
+pub front-open : (g : Graph) (u : ℕ) (path : List ℕ) (i : ℕ) → i < length path → OpenPath g u (drop i path) → OpenPath g u (getD path i 0 ∷ drop (i + 1) path)
+front-open g u path i h o = subst (OpenPath g u) (drop-more path i 0 h) o
+
+pub least-more : (ls : List Arc) (fs : List ℤ) (u : ℕ) (path : List ℕ) (i x y v z : ℕ) → i < length path → y ≡ min x (free ls fs u (getD path i 0)) → v ≡ across (mesh-of ls) u (getD path i 0) → least ls fs u (drop i path) x ≡ z → least ls fs v (drop (i + 1) path) y ≡ z
+least-more ls fs u path i x y v z h e q inv =
+    ap (λ a. least ls fs a (drop (i + 1) path) y) q
+    ∙ ap (least ls fs (across (mesh-of ls) u (getD path i 0)) (drop (i + 1) path)) e
+    ∙ ap (λ p. least ls fs u p x) (sym (drop-more path i 0 h))
+    ∙ inv
 
 -- what a step does to the nets
 turn-net : (b c : Bool) (x : ℤ) → only b (negℤ x) -ℤ only c (negℤ x) ≡ only c x -ℤ only b x
@@ -97,12 +101,6 @@ module _ (ls : List Arc) (fs : List ℤ) (x l : ℕ) (z : ℤ) where
     open-set (across (mesh-of ls) u m) rest (a .1) (o .1),
   )
 
-pub onward-none : (ls : List Arc) (fs : List ℤ) (x u w : ℕ) (path : List ℕ) → Within limit-of ls fs → Route ls fs x u path w → Onward ls fs fs x u u w path
-onward-none ls fs x u w path h r = record { moved = record { within = h; nets = λ v. same (net tail-of head-of ls fs v) (only (eqb u v) (pos x)); beyond = refl }; route = r }
-  where
-    same : (n a : ℤ) → n ≡ n +ℤ (a -ℤ a)
-    same n a = omega (arith, whole)
-
 -- one link more is raised
 pub onward-more : (ls : List Arc) (was fs : List ℤ) (x u at w l : ℕ) (rest : List ℕ) (fs′ : List ℤ) (at′ : ℕ) → length ls ≤ length fs → Onward ls was fs x u at w (l ∷ rest) → fs′ ≡ set fs l (getD fs l (pos 0) +ℤ toward (ahead ls at l) (pos x)) → at′ ≡ across (mesh-of ls) at l → Onward ls was fs′ x u at′ w rest
 onward-more ls was fs x u at w l rest fs′ at′ long o e q =
@@ -126,18 +124,10 @@ onward-more ls was fs x u at w l rest fs′ at′ long o e q =
     } in
     subst (λ f. Onward ls was f x u at′ w rest) (sym e) (subst (λ a. Onward ls was (set fs l z) x u a w rest) (sym q) next)
 
--- the next link stands in front
-pub gauge-at : (ls : List Arc) (fs : List ℤ) (most x u : ℕ) (path′ : List ℕ) (at : ℕ) (path : List ℕ) (i : ℕ) → i < length path → Gauged ls fs most x u path′ at (drop i path) → Gauged ls fs most x u path′ at (getD path i 0 ∷ drop (i + 1) path)
-gauge-at ls fs most x u path′ at path i h g = subst (Gauged ls fs most x u path′ at) (drop-more path i 0 h) g
-
 pub onward-at : (ls : List Arc) (was fs : List ℤ) (x u at w : ℕ) (path : List ℕ) (i : ℕ) → i < length path → Onward ls was fs x u at w (drop i path) → Onward ls was fs x u at w (getD path i 0 ∷ drop (i + 1) path)
 onward-at ls was fs x u at w path i h o = subst (Onward ls was fs x u at w) (drop-more path i 0 h) o
 
--- the whole path is gauged, or raised
-pub gauge-all : (ls : List Arc) (fs : List ℤ) (most x u at : ℕ) (path : List ℕ) (i : ℕ) → length path ≤ i → Gauged ls fs most x u path at (drop i path) → OpenPath (residual ls fs x) u path
-gauge-all ls fs most x u at path i h g =
-    g .so x (omega arith) (subst (OpenPath (residual ls fs x) at) (sym (drop-all i path h)) tt)
-
+-- the whole path is raised
 pub onward-all : (ls : List Arc) (was fs : List ℤ) (x u at w : ℕ) (path : List ℕ) (i : ℕ) → length path ≤ i → Onward ls was fs x u at w (drop i path) → Moved ls was fs x u w
 onward-all ls was fs x u at w path i h o =
     let end : Onward ls was fs x u at w [] = subst (Onward ls was fs x u at w) (drop-all i path h) o in

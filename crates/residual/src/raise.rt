@@ -1,7 +1,7 @@
 // The least free amount of a path, and a flow raised along it.
 ghost use mathlib.Core.Path.{_≡_};
 ghost use mathlib.Core.Bool.{cond};
-ghost use Prim.Native.Nat.{_≤_, _<_};
+ghost use Prim.Native.Nat.{_≤_, _<_, min};
 ghost use lib.Dec.{eqb};
 ghost use lib.ListN.{length, getD, set};
 ghost use lib.IntN.{pos, _+ℤ_, natAbs};
@@ -13,7 +13,7 @@ ghost use Rattle.search.specs.Graphs.{across};
 ghost use Rattle.search.specs.Paths.{OpenPath, destination};
 ghost use Rattle.residual.specs.Meshes.{mesh-of, ahead, toward, residual};
 ghost use Rattle.residual.specs.Networks.{links-in};
-ghost use Rattle.residual.specs.Raising.{Route, Moved};
+ghost use Rattle.residual.specs.Raising.{least, Route, Moved};
 use crate::residual::Residual;
 use engine::arc::Arc;
 use engine::job::Job;
@@ -25,19 +25,23 @@ fn far_end(arc: Arc, at: u8) -> u8
     if arc.tail == at { arc.head } else { arc.tail }
 }
 
+// The lesser of two amounts.
+fn lesser(a: u32, b: u32) -> u32
+    ensures { λ r. ⌜ r ≡ min a b ⌝ }
+{
+    a.min(b)
+}
+
 // The least of `most` and what is free on each link of a path of open steps.
 pub fn least_free(ground: &Residual<'_>, from: u8, path: &[u16], most: u32) -> u32
-    requires some { ⌜ 0 < most ⌝ }
-    requires path { ⌜ OpenPath (residual (links-in (now (now ground .network))) (now (now ground .flow)) 1) from (now path) ⌝ }
-    ensures low { λ r. ⌜ r ≤ most ⌝ }
-    ensures some { λ r. ⌜ 0 < r ⌝ }
-    ensures room { λ r. ⌜ OpenPath (residual (links-in (now (now (ground .entry) .network))) (now (now (ground .entry) .flow)) r) from (now (path .entry)) ⌝ }
+    requires { ⌜ OpenPath (residual (links-in (now (now ground .network))) (now (now ground .flow)) 1) from (now path) ⌝ }
+    ensures { λ r. ⌜ r ≡ least (links-in (now (now (ground .entry) .network))) (now (now (ground .entry) .flow)) from (now (path .entry)) most ⌝ }
 {
     let mut by = most;
-    let mut at = from;
+    let mut cabinet = from;
     for link in path {
-        by = by.min(ground.free(at, *link));
-        at = far_end(ground.network.job.links()[*link as usize], at);
+        by = lesser(by, ground.free(cabinet, *link));
+        cabinet = far_end(ground.network.job.links()[*link as usize], cabinet);
     }
     by
 }

@@ -33,14 +33,6 @@ fn room(limit: u32, flow: i32, ahead: bool) -> u32
 }
 
 impl<'a> Residual<'a> {
-    pub fn new(network: &'a Network<'a>, flow: &'a [i32; 512]) -> Residual<'a>
-        requires { ⌜ Within limit-of (links-in (now network)) (now flow) ⌝ }
-        ensures network { λ r. ⌜ now (r .network) ≡ now (network .entry) ⌝ }
-        ensures flow { λ r. ⌜ now (r .flow) ≡ now (flow .entry) ⌝ }
-    {
-        Residual { network, flow }
-    }
-
     // How much more can go from a cabinet over a link.
     pub fn free(&self, cabinet: u8, link: u16) -> u32
         requires { ⌜ link < length (links-in (now (now self .network))) ⌝ }

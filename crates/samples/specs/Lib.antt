@@ -1,0 +1,2 @@
+pub mod Randoms
+pub mod Shapes
