@@ -2,9 +2,9 @@
 use mathlib.Core.Path.{_≡_}
 use mathlib.Core.Bool.{Bool, not, cond, _||_}
 use mathlib.Core.List.{List}
-use Prim.Native.Nat.{ℕ, _+_, _<_, _≤_}
+use Prim.Native.Nat.{ℕ, _<_}
 use lib.Dec.{eqb, leb, ltb}
-use lib.IntN.{ℤ, pos, natAbs}
+use lib.IntN.{ℤ, pos}
 use lib.ListN.{length, getD}
 use Rattle.std.specs.Options.{isSome}
 use Rattle.std.specs.declared.option.Option.{Option}
@@ -54,22 +54,24 @@ Ends-inside p = (p .source1 < 64) × (p .goal1 < 64) × (p .source2 < 64) × (p 
 abbrev pub Ends-apart : Pairs → Type 0
 Ends-apart p = (p .source1 ≡ p .goal1 → ⊥) × (p .source2 ≡ p .goal2 → ⊥)
 
--- the two shares without sign add up to at most the link's slots
-abbrev pub Fits : Row → ℤ → ℤ → Type 0
-Fits link one two = natAbs one + natAbs two ≤ link .slots
+-- whether no plan is held
+abbrev pub no-plan : Reading → Bool
+no-plan s = not (isSome (s .plan))
 
--- what is asked once a plan is held is refused for the first of its conditions that holds
-abbrev pub refusal-held : List Row → Request → Option Fault
-refusal-held links Total = None
-refusal-held links (Share l) = refuse-if (leb (length links) l) (Sheet missing.Link) None
-refusal-held links (Member side v) = refuse-if (ltb 63 v) (Sheet missing.Cabinet) None
-refusal-held links (Route stream places) =
-    refuse-if (not (eqb stream 1 || eqb stream 2)) (Sheet missing.Stream) (
-    refuse-if (ltb places 64) (Sheet missing.Room) None)
-
--- the table of refusals: no plan is held, or the first condition of the request that holds
+-- the table of refusals: for each request its conditions in order, and the fault of the first that holds
 abbrev pub refusal : Reading → Request → Option Fault
-refusal s q = refuse-if (not (isSome (s .plan))) (Sheet missing.Plan) (refusal-held (s .links) q)
+refusal s Total =
+    refuse-if (no-plan s) (Sheet missing.Plan) None
+refusal s (Share l) =
+    refuse-if (no-plan s) (Sheet missing.Plan) (
+    refuse-if (leb (length (s .links)) l) (Sheet missing.Link) None)
+refusal s (Member side v) =
+    refuse-if (no-plan s) (Sheet missing.Plan) (
+    refuse-if (ltb 63 v) (Sheet missing.Cabinet) None)
+refusal s (Route stream places) =
+    refuse-if (no-plan s) (Sheet missing.Plan) (
+    refuse-if (not (eqb stream 1 || eqb stream 2)) (Sheet missing.Stream) (
+    refuse-if (ltb places 64) (Sheet missing.Room) None))
 
 -- what holds of the plan that is held
 abbrev pub Of-plan : Option Plan → (Plan → Type 0) → Type 0
@@ -98,7 +100,7 @@ side-of First p = p .first
 abbrev pub Contains : Side → ℕ → List Row → Plan → Bool → Type 0
 Contains side v links p b = b ≡ members (side-of side p) v
 
--- a route of stream one or two, in the caller's list
+-- a route of stream one or two from its source to its goal, in the caller's list
 abbrev pub Routed : ℕ → List ℕ → List ℕ → List Row → Plan → Option ℕ → Type 0
 Routed stream list list′ links p n =
     cond (eqb stream 1)

@@ -11,7 +11,7 @@ use mesh::row::Row;
 use search::incidence::Incidence;
 
 #[derive(Drop)]
-pub struct Carried<'a> {
+pub(crate) struct Carried<'a> {
     links: &'a [Row],
     shares: &'a [i32],
     index: Incidence,
@@ -21,4 +21,4 @@ pub struct Carried<'a> {
     ghost indexed: { IndexOf index (mesh-of (now links)) },
 }
 
-pub mod ground;
+pub(crate) mod ground;
