@@ -1,0 +1,3 @@
+mod Calling
+mod Testing
+mod Passing
