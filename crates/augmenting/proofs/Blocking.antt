@@ -3,13 +3,13 @@ use mathlib.Core.Path.{_≡_, refl, sym, ap, _∙_, subst}
 use mathlib.Core.Logic.{_⊎_, inl, inr, ⊎-elim}
 use mathlib.Core.Bool.{Bool, true, false, cond, _&&_, _||_}
 use mathlib.Core.List.{List}
-use Prim.Native.Nat.{ℕ, _+_, _-_, _≤_, _<_}
+use Prim.Native.Nat.{ℕ, _+_, _-_, _≤_, _<_, min}
 use native.Mathlib.Omega.{arith}
-use lib.Dec.{eqb, leb}
+use lib.Dec.{eqb, leb, ltb}
 use lib.ListN.{length, getD, replicate}
 use lib.IntN.{ℤ, pos, negℤ, _+ℤ_, _-ℤ_}
 use Rattle.std.proofs.shelf.Lists.{getD-replicate, getD-past, length-replicate}
-use Rattle.std.proofs.shelf.Tests.{true≢false, false≢true, both-ways, le-leb, eq-eqb, ne-eqb, cases-lt, and-parts, and-from, and-left, and-right, or-cases, or-from, or-left, or-right}
+use Rattle.std.proofs.shelf.Tests.{true≢false, false≢true, both-ways, le-leb, ltb-true, ltb-false, eq-eqb, ne-eqb, cases-lt, and-parts, and-from, and-left, and-right, or-cases, or-from, or-left, or-right}
 use Rattle.flow.specs.declared.taps.Taps.{Taps}
 use Rattle.flow.specs.Ranges.{cabinets}
 use Rattle.flow.specs.Nets.{only, xor, members}
@@ -40,20 +40,25 @@ none-in n v = ⊎-elim (λ h. getD-replicate n v false false h) (λ h. past n v 
     past : (n v : ℕ) → n ≤ v → getD (replicate n false) v false ≡ false
     past n v h = getD-past (replicate n false) v false (omega (arith, length-replicate n false))
 
-pub feed-placed : (at : Taps ℕ) (i : Which) → Placed cabinets at → feed-of at i < cabinets
+feed-placed : (at : Taps ℕ) (i : Which) → Placed cabinets at → feed-of at i < cabinets
 feed-placed at First p = p .0
 feed-placed at Second p = p .1
 
 -- a feed that is full is blocked by the empty side, and a drain that is full by the whole
-pub blocked-none : (j : Job) (fs : List ℤ) (r : Taps ℕ) (p : Pair) → feed-of (j .most) (p .from) ≤ feed-of r (p .from) → Blocked j fs r p (members (replicate 64 false))
+blocked-none : (j : Job) (fs : List ℤ) (r : Taps ℕ) (p : Pair) → feed-of (j .most) (p .from) ≤ feed-of r (p .from) → Blocked j fs r p (members (replicate 64 false))
 blocked-none j fs r p h = record { holds = λ k. absurd (omega arith); lacks = λ _. none-in 64 (drain-of (j .at) (p .to)); closed = λ u l _ e _. absurd (both-ways _ (none-in 64 u) e) }
 
-pub blocked-all : (j : Job) (fs : List ℤ) (r : Taps ℕ) (p : Pair) → drain-of (j .most) (p .to) ≤ drain-of r (p .to) → Blocked j fs r p (members (replicate 64 true))
+blocked-all : (j : Job) (fs : List ℤ) (r : Taps ℕ) (p : Pair) → drain-of (j .most) (p .to) ≤ drain-of r (p .to) → Blocked j fs r p (members (replicate 64 true))
 blocked-all j fs r p h = record {
   holds = λ _. getD-replicate 64 (feed-of (j .at) (p .from)) true false (feed-placed (j .at) (p .from) (j .placed));
   lacks = λ k. absurd (omega arith);
   closed = λ u l _ _ s. getD-replicate 64 (across (mesh-of (links-of j)) u l) true false (across-in (mesh-of (links-of j)) u l (job-lawful j) (s .listed));
 }
+
+-- with no room between them, everything blocks the pair if the feed can give more, and else nothing does
+pub blocked-full : (j : Job) (fs : List ℤ) (r : Taps ℕ) (p : Pair) (b : Bool) → min (feed-of (j .most) (p .from) - feed-of r (p .from)) (drain-of (j .most) (p .to) - drain-of r (p .to)) ≡ 0 → b ≡ ltb (feed-of r (p .from)) (feed-of (j .most) (p .from)) → Blocked j fs r p (members (replicate 64 b))
+blocked-full j fs r p true h e = let gives = ltb-true (feed-of r (p .from)) (feed-of (j .most) (p .from)) (sym e) in blocked-all j fs r p (omega arith)
+blocked-full j fs r p false h e = blocked-none j fs r p (ltb-false (feed-of r (p .from)) (feed-of (j .most) (p .from)) (sym e))
 
 -- a link from inside to outside with nothing free is full
 full-ahead : (b : Bool) (k : ℕ) (f : ℤ) → b ≡ true → room-on k f b ≤ 0 → f ≡ pos k

@@ -1,5 +1,5 @@
 // The engine of augmenting paths.
 pub mod augmenting;
-pub mod pairs;
-pub mod rounds;
-pub mod sending;
+mod pairs;
+mod rounds;
+mod sending;

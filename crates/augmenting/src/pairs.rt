@@ -1,6 +1,7 @@
 // One of the two feeds and one of the two drains.
 ghost use mathlib.Core.Path.{_≡_};
-ghost use Prim.Native.Nat.{_+_, _<_, _^_};
+ghost use Prim.Native.Nat.{_+_, _-_, _≤_, _<_, _^_, min};
+ghost use lib.Dec.{ltb};
 ghost use Rattle.augmenting.specs.Pairs.{feed-of, drain-of, sent};
 use flow::taps::Taps;
 
@@ -33,6 +34,24 @@ pub fn drain<T: Copy>(taps: Taps<T>, which: Which) -> T
         Which::First => taps.drain1,
         Which::Second => taps.drain2,
     }
+}
+
+// The most that can go from the feed to the drain by their limits.
+pub fn room_between(most: Taps<u32>, amounts: Taps<u32>, pair: Pair) -> u32
+    requires feed { ⌜ feed-of amounts (pair .from) ≤ feed-of most (pair .from) ⌝ }
+    requires drain { ⌜ drain-of amounts (pair .to) ≤ drain-of most (pair .to) ⌝ }
+    ensures { λ r. ⌜ r ≡ min (feed-of most (pair .from) - feed-of amounts (pair .from)) (drain-of most (pair .to) - drain-of amounts (pair .to)) ⌝ }
+{
+    let feed_room = feed(most, pair.from) - feed(amounts, pair.from);
+    let drain_room = drain(most, pair.to) - drain(amounts, pair.to);
+    feed_room.min(drain_room)
+}
+
+// Whether the feed can give more.
+pub fn can_give(most: Taps<u32>, amounts: Taps<u32>, which: Which) -> bool
+    ensures { λ r. ⌜ r ≡ ltb (feed-of amounts which) (feed-of most which) ⌝ }
+{
+    feed(amounts, which) < feed(most, which)
 }
 
 // The amounts after `by` more went from a feed to a drain.

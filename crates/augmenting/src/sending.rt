@@ -89,17 +89,11 @@ pub fn turn(
 {
     let at = network.job.at();
     let most = network.job.most();
-    let feed_room = feed(most, pair.from) - feed(*amounts, pair.from);
-    let drain_room = drain(most, pair.to) - drain(*amounts, pair.to);
-    if feed_room == 0 {
-        *side = [false; 64];
+    let room = room_between(most, *amounts, pair);
+    if room == 0 {
+        *side = [can_give(most, *amounts, pair.from); 64];
         return false;
     }
-    if drain_room == 0 {
-        *side = [true; 64];
-        return false;
-    }
-    let room = feed_room.min(drain_room);
     let by = send(
         network,
         flow,

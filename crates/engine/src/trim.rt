@@ -1,9 +1,11 @@
 // A layer over any engine: it hands down only the links with a limit above 0, and gives the others flow 0.
 ghost use mathlib.Core.Path.{_≡_};
+ghost use mathlib.Core.Bool.{cond};
 ghost use mathlib.Core.List.{_++_};
-ghost use Prim.Native.Nat.{_≤_};
-ghost use lib.ListN.{length, take, drop};
-ghost use Rattle.flow.specs.Trimming.{trimmed, dealt};
+ghost use Prim.Native.Nat.{_+_, _≤_, _<_};
+ghost use lib.ListN.{length, getD, set, take, drop};
+ghost use lib.IntN.{pos};
+ghost use Rattle.flow.specs.Trimming.{can-carry, trimmed, dealt};
 ghost use Rattle.engine.specs.Arcs.{limit-of};
 ghost use Rattle.engine.specs.Jobs.{links-of};
 use crate::arc::Arc;
@@ -50,6 +52,22 @@ fn smaller(job: &Job) -> Job
     }
 }
 
+// Writes the flow of the link at `place`, which is the next of `part` if the link has a limit above 0, and tells which is next then.
+fn give(arc: Arc, part: &[i32; 512], next: usize, flow: &mut [i32; 512], place: usize) -> usize
+    requires next { ⌜ next < 512 ⌝ }
+    requires place { ⌜ place < 512 ⌝ }
+    ensures flow { λ r. ⌜ now (flow .exit) ≡ set (now (flow .entry)) place (cond (can-carry limit-of arc) (getD (now (part .entry)) next (pos 0)) (pos 0)) ⌝ }
+    ensures next { λ r. ⌜ r ≡ cond (can-carry limit-of arc) (next + 1) next ⌝ }
+{
+    if arc.limit > 0 {
+        flow[place] = part[next];
+        next + 1
+    } else {
+        flow[place] = 0;
+        next
+    }
+}
+
 // Gives the links with a limit above 0 the flows of `part` in order, and the others flow 0.
 fn deal(links: &[Arc], part: &[i32; 512], flow: &mut [i32; 512])
     requires { ⌜ length (now links) ≤ 512 ⌝ }
@@ -57,12 +75,7 @@ fn deal(links: &[Arc], part: &[i32; 512], flow: &mut [i32; 512])
 {
     let mut next = 0;
     for (i, arc) in links.iter().enumerate() {
-        if arc.limit > 0 {
-            flow[i] = part[next];
-            next += 1;
-        } else {
-            flow[i] = 0;
-        }
+        next = give(*arc, part, next, flow, i);
     }
 }
 

@@ -1,7 +1,7 @@
 // The least free amount of a path, and a flow raised along it.
 ghost use mathlib.Core.Path.{_≡_};
 ghost use mathlib.Core.Bool.{cond};
-ghost use Prim.Native.Nat.{_≤_, _<_};
+ghost use Prim.Native.Nat.{_≤_, _<_, min};
 ghost use lib.Dec.{eqb};
 ghost use lib.ListN.{length, getD, set};
 ghost use lib.IntN.{pos, _+ℤ_, natAbs};
@@ -25,6 +25,12 @@ fn far_end(arc: Arc, at: u8) -> u8
     if arc.tail == at { arc.head } else { arc.tail }
 }
 
+fn lesser(a: u32, b: u32) -> u32
+    ensures { λ r. ⌜ r ≡ min a b ⌝ }
+{
+    a.min(b)
+}
+
 // The least of `most` and what is free on each link of a path of open steps.
 pub fn least_free(ground: &Residual<'_>, from: u8, path: &[u16], most: u32) -> u32
     requires some { ⌜ 0 < most ⌝ }
@@ -36,7 +42,7 @@ pub fn least_free(ground: &Residual<'_>, from: u8, path: &[u16], most: u32) -> u
     let mut by = most;
     let mut at = from;
     for link in path {
-        by = by.min(ground.free(at, *link));
+        by = lesser(by, ground.free(at, *link));
         at = far_end(ground.network.job.links()[*link as usize], at);
     }
     by

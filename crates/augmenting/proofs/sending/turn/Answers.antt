@@ -1,25 +1,31 @@
 use mathlib.Core.Path.{_≡_, refl, sym, ap, _∙_, subst}
-use Prim.Native.Nat.{_-_, _≤_, _<_}
+use Prim.Native.Nat.{ℕ, _-_, _≤_, _<_, min}
 use native.Mathlib.Omega.{arith}
 use denote.Ref.{now}
+use lib.Dec.{ltb}
+use Rattle.flow.specs.declared.taps.Taps.{Taps}
 use Rattle.engine.specs.Totals.{Feasible-flow}
 use Rattle.residual.specs.Networks.{links-in}
 use Rattle.residual.specs.Raising.{Moved}
+use Rattle.augmenting.specs.declared.pairs.Pair.{Pair}
 use Rattle.augmenting.specs.Pairs.{feed-of, drain-of}
 use Rattle.augmenting.specs.Sending.{unfed}
 use Rattle.augmenting.proofs.Amounts.{feasible-sent, unfed-sent}
-use Rattle.augmenting.proofs.Blocking.{blocked-none, blocked-all}
+use Rattle.augmenting.proofs.Blocking.{blocked-full}
 use Rattle.augmenting.proofs.sending.turn.Needs as need
 
-pub returns-then-feed-room-eq0 : need.returns-then-feed-room-eq0
-returns-then-feed-room-eq0 c =
-    let most = c .feed .ensures ∙ ap (λ t. feed-of t (c .args .pair .from)) (c .most-most .ensures) in
-    record { feasible = c .pre; beyond = refl; turned = (refl, refl, blocked-none _ _ _ _ (omega (arith, c .if-feed-room-eq0 .taken, most, c .feed-2 .ensures))) }
+-- the room between the feed and the drain, at limits that equal these
+room-at : (most limits r : Taps ℕ) (p : Pair) (x : ℕ) → most ≡ limits → x ≡ min (feed-of most (p .from) - feed-of r (p .from)) (drain-of most (p .to) - drain-of r (p .to)) → x ≡ min (feed-of limits (p .from) - feed-of r (p .from)) (drain-of limits (p .to) - drain-of r (p .to))
+room-at most limits r p x e h = subst (λ t. x ≡ min (feed-of t (p .from) - feed-of r (p .from)) (drain-of t (p .to) - drain-of r (p .to))) e h
 
-pub returns-then-drain-room-eq0 : need.returns-then-drain-room-eq0
-returns-then-drain-room-eq0 c =
-    let most = c .drain .ensures ∙ ap (λ t. drain-of t (c .args .pair .to)) (c .most-most .ensures) in
-    record { feasible = c .pre; beyond = refl; turned = (refl, refl, blocked-all _ _ _ _ (omega (arith, c .if-drain-room-eq0 .taken, most, c .drain-2 .ensures))) }
+pub returns-then-room-eq0 : need.returns-then-room-eq0
+returns-then-room-eq0 c =
+    let j = now (c .args .network .now .job) in
+    let p = c .args .pair in
+    let r = c .args .amounts .now in
+    let room = room-at (c .most-most .result) (j .most) r p _ (c .most-most .ensures) (c .room-between-room .ensures) in
+    let gives = c .can-give-side .ensures ∙ ap (λ t. ltb (feed-of r (p .from)) (feed-of t (p .from))) (c .most-most .ensures) in
+    record { feasible = c .pre; beyond = refl; turned = (refl, refl, blocked-full j _ r p (c .can-give-side .result) (sym room ∙ c .if-room-eq0 .taken) gives) }
 
 pub returns : need.returns
 returns c =
@@ -31,16 +37,14 @@ returns c =
     let fs = c .send-by .last .flow in
     let some : 0 < x = omega (arith, c .if-by-eq0 .left) in
     let low = c .send-by .ensures .low in
-    let least = c .min-room .ensures in
-    let fed = c .feed .ensures ∙ ap (λ t. feed-of t i) (c .most-most .ensures) in
-    let drained = c .drain .ensures ∙ ap (λ t. drain-of t k) (c .most-most .ensures) in
-    let from-feed : x ≤ feed-of (j .most) i - feed-of r i = omega (arith, low, least, fed, c .feed-2 .ensures) in
-    let to-drain : x ≤ drain-of (j .most) k - drain-of r k = omega (arith, low, least, drained, c .drain-2 .ensures) in
-    let feed-at = c .feed-3 .ensures ∙ ap (λ t. feed-of t i) (c .at-at .ensures) in
-    let drain-at = c .drain-3 .ensures ∙ ap (λ t. drain-of t k) (c .at-at .ensures) in
+    let room = room-at (c .most-most .result) (j .most) r (c .args .pair) _ (c .most-most .ensures) (c .room-between-room .ensures) in
+    let from-feed : x ≤ feed-of (j .most) i - feed-of r i = omega (arith, low, room) in
+    let to-drain : x ≤ drain-of (j .most) k - drain-of r k = omega (arith, low, room) in
+    let feed-at = c .feed .ensures ∙ ap (λ t. feed-of t i) (c .at-at .ensures) in
+    let drain-at = c .drain .ensures ∙ ap (λ t. drain-of t k) (c .at-at .ensures) in
     let moved : Moved (links-in (c .args .network .now)) (c .args .flow .now) fs x (feed-of (j .at) i) (drain-of (j .at) k) =
     subst (λ u. Moved (links-in (c .args .network .now)) (c .args .flow .now) fs x u (drain-of (j .at) k)) feed-at
-    (subst (λ w. Moved (links-in (c .args .network .now)) (c .args .flow .now) fs x (c .feed-3 .result) w) drain-at (c .send-by .ensures .some some)) in
+    (subst (λ w. Moved (links-in (c .args .network .now)) (c .args .flow .now) fs x (c .feed .result) w) drain-at (c .send-by .ensures .some some)) in
     record {
       feasible = subst (Feasible-flow j fs) (sym (c .add-sent .ensures)) (feasible-sent j (c .args .flow .now) fs r x i k (c .pre) moved from-feed to-drain);
       beyond = moved .beyond;

@@ -1,41 +1,40 @@
 use mathlib.Core.Path.{_≡_, sym, ap, _∙_}
-use mathlib.Core.Bool.{cond}
-use mathlib.Core.List.{_++_}
-use Prim.Native.Nat.{_≤_}
+use mathlib.Core.Logic.{⊎-elim}
+use mathlib.Core.Bool.{Bool, true, false, cond}
+use mathlib.Core.List.{List, _++_}
+use Prim.Native.Nat.{ℕ, _+_, _≤_, _<_}
 use native.Mathlib.Omega.{arith}
-use borrow.Author.Needs.{needs}
-use mir.Val.{SFits, toZ, ofZ}
-use mir.Syntax.{w32}
 use lib.ListN.{length, take, drop, getD}
 use lib.IntN.{pos}
 use Rattle.std.proofs.shelf.Lists.{take-all, length-push}
-use Rattle.std.proofs.shelf.Signed.{toZ-ofZ}
-use Rattle.std.proofs.shelf.Tests.{lt-ltb, le-ltb}
+use Rattle.std.proofs.shelf.Tests.{lt-ltb, le-ltb, cases-lt}
+use Rattle.flow.specs.Trimming.{can-carry, trimmed, dealt}
+use Rattle.flow.proofs.Trims.{trimmed-yes, trimmed-no, dealt-more}
+use Rattle.engine.specs.declared.arc.Arc.{Arc}
 use Rattle.engine.specs.Arcs.{blank, limit-of}
-use Rattle.flow.specs.Trimming.{trimmed, dealt}
-use Rattle.flow.proofs.Trims.{trimmed-yes, trimmed-no, dealt-more, next-flow}
 use Rattle.engine.proofs.trim.deal.Needs as need
-use Rattle.engine.proofs.trim.deal.Needs.{then-arc-gt0, else-arc-gt0}
+
+-- one more link is counted if it has a limit above 0
+counted : (ls : List Arc) (i n : ℕ) → i < length ls → n ≡ length (trimmed limit-of (take i ls)) → cond (can-carry limit-of (getD ls i blank)) (n + 1) n ≡ length (trimmed limit-of (take (i + 1) ls))
+counted ls i n h e =
+    ⊎-elim
+    (λ p. ap (λ b. cond b (n + 1) n) (lt-ltb 0 _ p) ∙ omega (arith, ap length (trimmed-yes limit-of ls i blank h p), length-push (trimmed limit-of (take i ls)) (getD ls i blank)))
+    (λ p. ap (λ b. cond b (n + 1) n) (le-ltb 0 _ p) ∙ e ∙ sym (ap length (trimmed-no limit-of ls i blank h p)))
+    (cases-lt 0 (limit-of (getD ls i blank)))
+
+at-most : (b : Bool) (n i : ℕ) → n ≤ i → cond b (n + 1) n ≤ i + 1
+at-most true n i h = omega arith
+at-most false n i h = omega arith
 
 pub loop-i-again : need.loop-i-again
 loop-i-again c =
     let links = c .args .links .now in
     let part = c .args .part .now in
     let i = c .loop-i .i in
-    let was = c .args .flow .now in
     let h = c .loop-i-test .taken in
-    let kept = length (trimmed limit-of (take i links)) in
-    let room : length links ≤ length was = omega arith in
-    elim (c .if-arc-gt0 .came) [
-      | then-arc-gt0 w ↦
-          let fits : SFits w32 (getD part (c .loop-i .next) (pos 0)) = search needs in
-          let x : toZ w32 (ofZ w32 (getD part (c .loop-i .next) (pos 0))) ≡ next-flow limit-of (getD links i blank) part kept =
-          toZ-ofZ w32 _ fits ∙ ap (λ n. getD part n (pos 0)) (c .loop-i .inv .1) ∙ sym (ap (λ b. cond b (getD part kept (pos 0)) (pos 0)) (lt-ltb 0 _ (w .if-arc-gt0 .taken))) in
-          (omega (arith, w .next-is), omega (arith, w .next-is, ap length (trimmed-yes limit-of links i blank h (w .if-arc-gt0 .taken)), length-push (trimmed limit-of (take i links)) (getD links i blank)), w .flow-is ∙ dealt-more limit-of links i blank h part was (c .loop-i .flow) _ room (c .loop-i .inv .2) x)
-      | else-arc-gt0 w ↦
-          let x : pos 0 ≡ next-flow limit-of (getD links i blank) part kept = sym (ap (λ b. cond b (getD part kept (pos 0)) (pos 0)) (le-ltb 0 _ (w .if-arc-gt0 .left))) in
-          (omega (arith, w .next-is), w .next-is ∙ c .loop-i .inv .1 ∙ sym (ap length (trimmed-no limit-of links i blank h (w .if-arc-gt0 .left))), w .flow-is ∙ dealt-more limit-of links i blank h part was (c .loop-i .flow) _ room (c .loop-i .inv .2) x)
-    ]
+    let room : length links ≤ length (c .args .flow .now) = omega arith in
+    let next-is = c .give-next .ensures .next in
+    (omega (arith, next-is, at-most (can-carry limit-of (getD links i blank)) (c .loop-i .next) i (c .loop-i .inv .0)), next-is ∙ counted links i (c .loop-i .next) h (c .loop-i .inv .1), c .give-next .ensures .flow ∙ dealt-more limit-of links i blank h part (c .args .flow .now) (c .loop-i .flow) _ room (c .loop-i .inv .2) (ap (λ n. cond (can-carry limit-of (getD links i blank)) (getD part n (pos 0)) (pos 0)) (c .loop-i .inv .1)))
 
 pub returns : need.returns
 returns c =

@@ -20,7 +20,7 @@ pub loop-link-again : need.loop-link-again
 loop-link-again c =
     let link = getD (c .args .path .now) (c .loop-link .link-index) 0 in
     let far : c .far-end-at .result ≡ across (mesh-of (links-in (c .args .ground .now .network .now))) (c .loop-link .at) link = c .far-end-at .ensures ∙ ap (λ ls. across (mesh-of ls) (c .loop-link .at) link) (c .links .ensures .links) in
-    gauge-more _ _ _ _ _ _ _ _ _ _ _ (gauge-at _ _ _ _ _ _ _ _ _ (c .loop-link-test .taken) (c .loop-link .inv)) (c .min-by .ensures ∙ ap (min (c .loop-link .by)) (c .free .ensures)) far
+    gauge-more _ _ _ _ _ _ _ _ _ _ _ (gauge-at _ _ _ _ _ _ _ _ _ (c .loop-link-test .taken) (c .loop-link .inv)) (c .lesser-by .ensures ∙ ap (min (c .loop-link .by)) (c .free .ensures)) far
 
 pub returns : need.returns
 returns c =
