@@ -1,0 +1,11 @@
+pub mod Levels
+pub mod Parts
+pub mod Gathered
+pub mod Gaps
+pub mod Labels
+pub mod Lowers
+pub mod Queues
+pub mod Pushes
+pub mod Lifts
+pub mod Turns
+pub mod Begins
