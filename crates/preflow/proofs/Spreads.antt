@@ -113,28 +113,6 @@ module _ (ls : List Arc) (sound : All-sound ls) where
           drain2 = λ some. omega (arith, s .drain2 some, le (at .drain2) placed-2);
         }
 
-    -- no cabinet stands at the level, or it is the last
-    pub settled-done : (hs : List ℕ) (d : ℕ) → Settled ls at most hs d → Empty hs d ⊎ (66 ≤ d) → Distances ls at most hs
-    settled-done hs d s end =
-        record {
-          top = s .top;
-          over = λ u l step.
-              let ends = step-ends ls sound u l (step .listed) (step .touching) in
-              let w : ℕ = across (mesh-of ls) u l in
-              let high-u = s .top u (ends .0) in
-              ⊎-elim
-              (λ (less : high hs (across (mesh-of ls) u l) < d). s .into (across (mesh-of ls) u l) (ends .1) less u l step refl)
-              (λ (more : d ≤ high hs (across (mesh-of ls) u l)). ⊎-elim
-              (λ (gap : Empty hs d).
-              let ne : high hs (across (mesh-of ls) u l) ≡ d → ⊥ = gap (across (mesh-of ls) u l) (ends .1) in
-              omega (arith, high-u, s .far (across (mesh-of ls) u l) (ends .1) (omega arith)))
-              (λ (last : 66 ≤ d). omega (arith, high-u))
-              end)
-              (cases-lt (high hs (across (mesh-of ls) u l)) d);
-          drain1 = s .drain1;
-          drain2 = s .drain2;
-        }
-
     -- the drains at 1, all others at 67
     pub settled-none : (hs : List ℕ) → Lowered 1 (replicate 64 67) hs → (0 < most .drain1 → high hs (at .drain1) ≤ 1) → (0 < most .drain2 → high hs (at .drain2) ≤ 1) → Settled ls at most hs 1
     settled-none hs low d1 d2 =

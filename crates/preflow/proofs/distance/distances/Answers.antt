@@ -1,5 +1,4 @@
 use mathlib.Core.Path.{_≡_, subst}
-use mathlib.Core.Logic.{inl, inr}
 use mathlib.Core.List.{List}
 use Prim.Native.Nat.{ℕ, _≤_, _<_}
 use native.Mathlib.Omega.{arith}
@@ -7,7 +6,7 @@ use Rattle.flow.specs.declared.taps.Taps.{Taps}
 use Rattle.engine.specs.declared.arc.Arc.{Arc}
 use Rattle.residual.specs.Networks.{links-in}
 use Rattle.preflow.specs.Heights.{high}
-use Rattle.preflow.proofs.Spreads.{settled-none, settled-more, settled-done}
+use Rattle.preflow.proofs.Spreads.{settled-none, settled-more}
 use Rattle.preflow.proofs.distance.distances.Needs as need
 
 pub loop-level-holds : need.loop-level-holds
