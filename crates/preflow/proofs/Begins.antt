@@ -25,11 +25,12 @@ use Rattle.engine.specs.Arcs.{tail-of, head-of, limit-of, Fits, Limited}
 use Rattle.residual.specs.Meshes.{mesh-of}
 use Rattle.preflow.specs.Heights.{high, Valid}
 use Rattle.preflow.specs.Sends.{given}
-use Rattle.preflow.specs.Starts.{begun, filled, Still, Lined}
+use Rattle.preflow.specs.Starts.{begun, filled, Still, Lined, Distances}
 use Rattle.preflow.specs.Waits.{times, Queued}
 use Rattle.preflow.specs.States.{Excess, Labeled}
 use Rattle.preflow.proofs.Parts.{given-at, given-sum}
 use Rattle.preflow.proofs.Queues.{times-push, some, none}
+use Rattle.preflow.proofs.Spreads.{distances-valid}
 
 -- nothing stands anywhere in a list of zeros
 pub zeros : (v : ℕ) → _≡_ {A = ℕ} (getD (replicate 64 0) v 0) 0
@@ -87,17 +88,6 @@ begun-labeled ls at most fs hs fits room still tall valid low =
       low = low;
     }
 
--- all cabinets at height 0
-pub zeros-valid : (ls : List Arc) (at most : Taps ℕ) (fs : List ℤ) → Valid ls at most (begun most) fs (replicate 64 0)
-zeros-valid ls at most fs =
-    record {
-      over = λ u l step. omega (arith, zeros u);
-      feed1 = ((λ _. omega (arith, zeros (at .feed1))), (λ h. absurd (omega arith)));
-      feed2 = ((λ _. omega (arith, zeros (at .feed2))), (λ h. absurd (omega arith)));
-      drain1 = λ _. omega (arith, zeros (at .drain1));
-      drain2 = λ _. omega (arith, zeros (at .drain2));
-    }
-
 module _ (ex : List ℕ) (n : ℕ) (qs : List ℕ) (lined : Lined ex n qs) where
   under : (v m : ℕ) → v < m → _≡_ {A = ℕ} (cond (ltb v m) (cond (ltb 0 (getD ex v 0)) 1 0) 0) (cond (ltb 0 (getD ex v 0)) 1 0)
   under v m h = cond-true (ltb v m) (cond (ltb 0 (getD ex v 0)) 1 0) 0 (lt-ltb v m h)
@@ -145,6 +135,6 @@ lined-none ex qs e v = ap (times v) e ∙ sym (cond-false (ltb v 0) (cond (ltb 0
 pub job-fits : (j : Job) → Fits (links-of j) (j .at) (j .most)
 job-fits j = record { few = omega (arith, j .few, length-take (j .count) (j .arcs)); sound = j .sound; placed = j .placed; limited = j .limited }
 
-pub job-begun : (j : Job) (fs : List ℤ) → length (links-of j) ≤ length fs → Still (length (links-of j)) fs → Labeled (links-of j) (j .at) (j .most) (begun (j .most)) fs (filled (j .at) (j .most)) (replicate 64 0)
-job-begun j fs room still =
-    begun-labeled (links-of j) (j .at) (j .most) fs (replicate 64 0) (job-fits j) room still refl (zeros-valid (links-of j) (j .at) (j .most) fs) (λ w h. omega (arith, zeros w))
+pub job-begun : (j : Job) (fs : List ℤ) (hs : List ℕ) → length (links-of j) ≤ length fs → Still (length (links-of j)) fs → length hs ≡ cabinets → Distances (links-of j) (j .at) (j .most) hs → Labeled (links-of j) (j .at) (j .most) (begun (j .most)) fs (filled (j .at) (j .most)) hs
+job-begun j fs hs room still tall d =
+    begun-labeled (links-of j) (j .at) (j .most) fs hs (job-fits j) room still tall (distances-valid (links-of j) (j .at) (j .most) fs hs (j .placed .0) (j .placed .1) still d) (λ w h. omega (arith, d .top w h))

@@ -8,4 +8,5 @@ pub mod Queues
 pub mod Pushes
 pub mod Lifts
 pub mod Turns
+pub mod Spreads
 pub mod Begins

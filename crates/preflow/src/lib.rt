@@ -1,11 +1,12 @@
 // Preflow pushing: an engine that sends as much as the feeds let in, and lets what the drains do not take flow back.
-pub mod lowest;
+mod distance;
+mod lowest;
 pub mod preflow;
-pub mod relabel;
-pub mod send;
-pub mod side;
-pub mod start;
-pub mod state;
-pub mod turn;
-pub mod wait;
-pub mod way;
+mod relabel;
+mod send;
+mod side;
+mod start;
+mod state;
+mod turn;
+mod wait;
+mod way;

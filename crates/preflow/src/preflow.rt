@@ -1,11 +1,13 @@
 // Preflow pushing, as an engine.
 ghost use mathlib.Core.Path.{_≡_};
 ghost use Prim.Native.Nat.{ℕ, _≤_, _<_};
-ghost use lib.ListN.{length, getD, drop, replicate};
+ghost use lib.ListN.{length, getD, drop};
+ghost use Rattle.flow.specs.Ranges.{cabinets};
 ghost use Rattle.search.specs.Queues.{items, room};
 ghost use Rattle.residual.specs.Networks.{links-in};
 ghost use Rattle.preflow.specs.States.{Standing, Active};
-ghost use Rattle.preflow.specs.Starts.{begun, filled};
+ghost use Rattle.preflow.specs.Starts.{begun, filled, Distances};
+use crate::distance::distances;
 use crate::side::gap;
 use crate::side::tell;
 use crate::start::fill;
@@ -32,11 +34,14 @@ fn drain(network: &Network<'_>, flow: &mut [i32; 512], state: &mut State, queue:
     }
 }
 
-// The preflow to start from: the feeds at their limits, and all cabinets at height 0.
-fn begin(job: &Job) -> State
-    ensures { λ r. ⌜ r ≡ record { amounts = begun (now (job .entry) .most); excess = filled (now (job .entry) .at) (now (job .entry) .most); heights = replicate 64 0 } ⌝ }
+// The preflow to start from: the feeds at their limits, and the cabinets as high as they are far from a drain.
+fn begin(network: &Network<'_>) -> State
+    ensures amounts { λ r. ⌜ r .amounts ≡ begun (now (now (network .entry) .job) .most) ⌝ }
+    ensures excess { λ r. ⌜ r .excess ≡ filled (now (now (network .entry) .job) .at) (now (now (network .entry) .job) .most) ⌝ }
+    ensures tall { λ r. ⌜ length (r .heights) ≡ cabinets ⌝ }
+    ensures distances { λ r. ⌜ Distances (links-in (now (network .entry))) (now (now (network .entry) .job) .at) (now (now (network .entry) .job) .most) (r .heights) ⌝ }
 {
-    let most = job.most();
+    let most = network.job.most();
     State {
         amounts: Taps {
             feed1: most.feed1,
@@ -44,18 +49,19 @@ fn begin(job: &Job) -> State
             drain1: 0,
             drain2: 0,
         },
-        excess: fill(job.at(), most),
-        heights: [0; 64],
+        excess: fill(network.job.at(), most),
+        heights: distances(network),
     }
 }
 
+// The engine keeps nothing from job to job.
 #[derive(Clone, Copy)]
 pub struct Preflow;
 
 pub impl Engine for Preflow as PreflowEngine {
     fn solve(&mut self, job: &Job, flow: &mut [i32; 512], side: &mut [bool; 64]) -> Taps<u32> {
         let network = Network::of(job);
-        let mut state = begin(job);
+        let mut state = begin(&network);
         still(flow, job.links().len());
         let mut places = [0; 65];
         let mut queue = Queue::new(&mut places);

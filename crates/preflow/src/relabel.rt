@@ -1,6 +1,7 @@
 // Lifting a cabinet.
 ghost use mathlib.Core.Path.{_≡_};
 ghost use Prim.Native.Nat.{ℕ, _≤_, _<_};
+ghost use lib.ListN.{set};
 ghost use Rattle.std.specs.Options.{Cases as BySome};
 ghost use Rattle.preflow.specs.Heights.{high, Empty, over-top, Raised, Relabeled};
 
@@ -36,6 +37,14 @@ fn raise_above(heights: &mut [u8; 64], level: u8)
     }
 }
 
+// Lifts the cabinet `at` to a height.
+fn lift(heights: &mut [u8; 64], at: u8, height: u8)
+    requires { ⌜ at < 64 ⌝ }
+    ensures { λ _. ⌜ now (heights .exit) ≡ set (now (heights .entry)) at height ⌝ }
+{
+    heights[at as usize] = height;
+}
+
 // Lifts the cabinet `at`. Where nothing stands at its former level any more, what stands above that level
 // is cut off from the drains: it is raised past the outer source, so that it soon flows back to the feeds.
 pub fn relabel(heights: &mut [u8; 64], at: u8, height: u8)
@@ -43,7 +52,7 @@ pub fn relabel(heights: &mut [u8; 64], at: u8, height: u8)
     ensures { λ _. ⌜ Relabeled (now (heights .entry)) at height (now (heights .exit)) ⌝ }
 {
     let level = heights[at as usize];
-    heights[at as usize] = height;
+    lift(heights, at, height);
     if level > 0 && level < 66 {
         if let None = standing(heights, level) {
             raise_above(heights, level);

@@ -1,7 +1,7 @@
 // One turn of a cabinet: a push along its lowest way, or a relabel.
 ghost use mathlib.Core.Path.{_≡_};
 ghost use mathlib.Core.List.{_∷_};
-ghost use Prim.Native.Nat.{_≤_, _<_};
+ghost use Prim.Native.Nat.{_≤_, _<_, min};
 ghost use lib.ListN.{length, drop};
 ghost use Rattle.search.specs.Queues.{items, room};
 ghost use Rattle.residual.specs.Networks.{links-in};
@@ -16,6 +16,13 @@ use crate::wait::settle;
 use crate::way::Best;
 use residual::network::Network;
 use search::queue::Queue;
+
+// How much goes along a way: what fits there of the excess.
+fn portion(room: u32, excess: u32) -> u32
+    ensures { λ r. ⌜ r ≡ min room excess ⌝ }
+{
+    room.min(excess)
+}
 
 // Sends what fits of the excess at the first cabinet along an admissible way.
 fn push(
@@ -35,7 +42,7 @@ fn push(
     ensures beyond { λ _. ⌜ drop (length (links-in (now (network .entry)))) (now (flow .exit)) ≡ drop (length (links-in (now (network .entry)))) (now (flow .entry)) ⌝ }
     ensures falls { λ _. ⌜ left (now (state .exit)) < left (now (state .entry)) ⌝ }
 {
-    let by = best.room.min(state.excess[first as usize]);
+    let by = portion(best.room, state.excess[first as usize]);
     let to = send(network.job, flow, state, first, best.way, by);
     settle(queue, &state.excess, first, to, by);
 }

@@ -36,8 +36,8 @@ send-to-requires c κs =
     let b = c .args .best in
     record {
       inside = at-front ls at most a fs ex hs qs s q v (c .pre .front) .1;
-      enough = enough ls at most a fs ex hs qs s q v (c .pre .front) b (c .pre .admissible) (c .min-by .result) (c .min-by .ensures);
-      can = push-can ls at most a fs ex hs qs s q v (c .pre .front) b (c .pre .admissible) (c .min-by .result) (c .min-by .ensures);
+      enough = enough ls at most a fs ex hs qs s q v (c .pre .front) b (c .pre .admissible) (c .portion-by .result) (c .portion-by .ensures);
+      can = push-can ls at most a fs ex hs qs s q v (c .pre .front) b (c .pre .admissible) (c .portion-by .result) (c .portion-by .ensures);
     }
 
 pub settle-requires : need.settle-requires
@@ -56,7 +56,7 @@ settle-requires c κs =
     let b = c .args .best in
     record {
       inside = at-front ls at most a fs ex hs qs s q v (c .pre .front) .1;
-      near = subst (λ (o : Option ℕ). Cases o (Unit {0}) (λ w. w < 64)) (sym (c .send-to .ensures .to)) (far-near v (reached ls v (b .way)) (push-far ls at most a fs ex hs qs s q v (c .pre .front) b (c .pre .admissible) (c .min-by .result) (c .min-by .ensures)));
+      near = subst (λ (o : Option ℕ). Cases o (Unit {0}) (λ w. w < 64)) (sym (c .send-to .ensures .to)) (far-near v (reached ls v (b .way)) (push-far ls at most a fs ex hs qs s q v (c .pre .front) b (c .pre .admissible) (c .portion-by .result) (c .portion-by .ensures)));
       fits = omega (arith, line-short ls at most a fs ex hs qs s q v (c .pre .front), c .pre .room);
     }
 
@@ -74,8 +74,8 @@ returns c =
     let q = c .pre .active .queued in
     let v : ℕ = c .args .first in
     let b = c .args .best in
-    let n : ℕ = c .min-by .result in
-    let is = c .min-by .ensures in
+    let n : ℕ = c .portion-by .result in
+    let is = c .portion-by .ensures in
     let front = c .pre .front in
     let adm = c .pre .admissible in
     let to : Option ℕ = reached ls v (b .way) in

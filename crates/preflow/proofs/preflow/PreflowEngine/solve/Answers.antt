@@ -12,11 +12,11 @@ use Rattle.flow.proofs.Sums.{whole}
 use Rattle.engine.specs.declared.job.Job.{Job}
 use Rattle.engine.specs.Arcs.{tail-of, head-of}
 use Rattle.engine.specs.Jobs.{links-of}
-use Rattle.preflow.specs.declared.state.State.{State}
-use Rattle.preflow.specs.Starts.{begun, Still}
+use Rattle.preflow.specs.Starts.{begun, filled, Still}
 use Rattle.preflow.specs.States.{Labeled}
 use Rattle.preflow.proofs.Begins.{job-begun}
 use Rattle.preflow.proofs.Gaps.{gap-cost}
+use Rattle.preflow.proofs.Turns.{become}
 use Rattle.preflow.proofs.preflow.PreflowEngine.solve.Needs as need
 
 settled : (n : ℤ) (e : ℕ) (g : ℤ) → n +ℤ pos e ≡ g → e ≡ 0 → n ≡ g
@@ -24,15 +24,15 @@ settled n e g p q = omega (arith, whole)
 
 pub drain-requires : need.drain-requires
 drain-requires c κs =
-    let job : Job = c .args .job .now in
+    let job : Job = c .of-network .result .job .now in
     let fs : List ℤ = c .still .last .flow in
-    let count = ap length (c .links .ensures .links) in
-    let begun-at : Labeled (links-of job) (job .at) (job .most) (c .begin-state .result .amounts) fs (c .begin-state .result .excess) (c .begin-state .result .heights) =
-    subst (λ (s : State). Labeled (links-of job) (job .at) (job .most) (s .amounts) fs (s .excess) (s .heights)) (sym (c .begin-state .ensures))
-    (job-begun job fs (omega (arith, count, c .links .ensures .few, c .still .array-long)) (subst (λ (n : ℕ). Still n fs) count (c .still .ensures .still))) in
+    let b = c .begin-state .ensures in
+    let state = c .begin-state .result in
+    let count : length (c .links .result .now) ≡ length (links-of (c .of-network .result .job .now)) = ap length (c .links .ensures .links) ∙ ap (λ (j : Job). length (links-of j)) (sym (c .of-network .ensures)) in
+    let begun-at = job-begun job fs (state .heights) (omega (arith, count, c .links .ensures .few, c .still .array-long)) (subst (λ (n : ℕ). Still n fs) count (c .still .ensures .still)) (b .tall) (b .distances) in
     record {
       active = record {
-        standing = subst (λ (j : Job). Labeled (links-of j) (j .at) (j .most) (c .begin-state .result .amounts) fs (c .begin-state .result .excess) (c .begin-state .result .heights)) (sym (c .of-network .ensures)) begun-at;
+        standing = become (links-of job) (job .at) (job .most) (begun (job .most)) (state .amounts) fs fs (filled (job .at) (job .most)) (state .excess) (state .heights) (state .heights) (b .amounts) refl (b .excess) refl begun-at;
         queued = c .line-up .ensures .queued;
       };
       room = omega (arith, c .line-up .ensures .room, c .new-queue .ensures .room);
