@@ -23,7 +23,7 @@ use Rattle.engine.specs.declared.arc.Arc.{Arc}
 use Rattle.engine.specs.Arcs.{blank, tail-of, head-of}
 use Rattle.residual.specs.Meshes.{mesh-of, ahead, toward, free, residual}
 use Rattle.residual.specs.Raising.{Moved}
-use Rattle.residual.proofs.Raising.{onward-none, onward-more, raise-fits}
+use Rattle.residual.proofs.Raising.{onward-more, raise-fits}
 use Rattle.preflow.specs.declared.way.Way.{Way}
 use Rattle.preflow.specs.declared.way.Way.the-variants.{Over, Drain1, Drain2, Feed1, Feed2, Shut}
 use Rattle.preflow.specs.Heights.{high, Valid, Valid-feed, Valid-drain}
@@ -38,7 +38,13 @@ use Rattle.preflow.proofs.Queues.{Far}
 one-link : (ls : List Arc) (fs : List ℤ) (ex hs : List ℕ) (at most amount : Taps ℕ) → Labeled ls at most amount fs ex hs → (v l by : ℕ) → Step (residual ls fs by) v l → Moved ls fs (carried ls fs v l by) by v (across (mesh-of ls) v l)
 one-link ls fs ex hs at most amount s v l by step =
     onward-more ls fs fs by v v (across (mesh-of ls) v l) l [] (carried ls fs v l by) (across (mesh-of ls) v l) (s .room)
-    (onward-none ls fs by v (across (mesh-of ls) v l) (l ∷ []) (s .within) (record { steps = (step, tt); once = (tt, tt); arrives = refl })) refl refl .moved
+    (record {
+      moved = record { within = s .within; nets = λ u. unmoved (net tail-of head-of ls fs u) (only (eqb v u) (pos by)); beyond = refl };
+      route = record { steps = (step, tt); once = (tt, tt); arrives = refl };
+    }) refl refl .moved
+  where
+    unmoved : (n a : ℤ) → n ≡ n +ℤ (a -ℤ a)
+    unmoved n a = omega (arith, whole)
 
 only-more : (b : Bool) (m n : ℕ) → only b (pos (m + n)) ≡ only b (pos m) +ℤ only b (pos n)
 only-more true m n = refl
