@@ -1,7 +1,6 @@
 // Solves random jobs by both engines, and by preflow pushing under two layers of Trim, and compares the totals fed.
 use augmenting::augmenting::Augmenting;
 use augmenting::augmenting::AugmentingEngine;
-use engine::greatest::both_totals;
 use engine::greatest::greatest_total;
 use engine::trim::Trim;
 use engine::trim::TrimEngine;
@@ -39,7 +38,8 @@ fn main(rt: LibcRuntime) -> io::Result<()> {
     for number in 0..100u8 {
         match next_job(&mut random, shape_of(number)) {
             Some(job) => {
-                let (pushed, raised) = both_totals(&mut Preflow, &mut Augmenting, &job);
+                let pushed = greatest_total(&mut Preflow, &job);
+                let raised = greatest_total(&mut Augmenting, &job);
                 let piled = greatest_total(&mut pile, &job);
                 println!(
                     rt,
