@@ -1,4 +1,6 @@
 // The engine of augmenting paths.
+#![tactic(auto)]
+
 pub mod augmenting;
 mod pairs;
 mod rounds;

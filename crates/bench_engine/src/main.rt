@@ -1,6 +1,8 @@
 // Measures single solves and the five solves of a draw, on random jobs of the greatest size.
 // Without an argument it prints the totals fed and the raises; with `times` also the microseconds that a solve takes,
 // and with `jobs` the jobs themselves, for another solver.
+#![tactic(auto)]
+
 use augmenting::augmenting::augment;
 use engine::job::Job;
 use flow::taps::Taps;

@@ -1,6 +1,8 @@
 // Measures the two engines side by side on random jobs of 64 cabinets and 64, 128, 256 and 512 links.
 // Without an argument it prints the totals fed; with `times` also the nanoseconds that a solve takes of each engine,
 // and with `jobs` the jobs themselves, for another solver.
+#![tactic(auto)]
+
 use augmenting::augmenting::Augmenting;
 use engine::engine::Engine;
 use engine::job::Job;

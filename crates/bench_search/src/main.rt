@@ -1,5 +1,7 @@
 // Measures one search that walks every row: the goal is a cabinet that no link touches.
 // Without an argument it says what the searches answered; with one it repeats them and also says how long each took.
+#![tactic(auto)]
+
 ghost use Rattle.search.specs.Graphs.{Lawful};
 ghost use Rattle.search.specs.Incidences.{IndexOf};
 ghost use Rattle.grounds.specs.Nets.{mesh_at};

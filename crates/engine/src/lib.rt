@@ -1,4 +1,6 @@
 // Engines: a job asks for the greatest flow from two feeds to two drains, and an engine answers it.
+#![tactic(auto)]
+
 pub mod arc;
 pub mod engine;
 pub mod greatest;

@@ -1,4 +1,6 @@
 // What a plan is, and why a full mesh is full.
+#![tactic(auto)]
+
 pub mod edge;
 pub mod nets;
 pub mod pairs;

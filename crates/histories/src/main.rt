@@ -1,5 +1,7 @@
 // Runs calls on real books and prints what comes of them: the worked meshes drawn with every engine, every refusal of
 // every call, proposals, trials, and a long history.
+#![tactic(auto)]
+
 mod call;
 mod long;
 mod proposals;

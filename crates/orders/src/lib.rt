@@ -1,4 +1,6 @@
 // Order files: reading them record by record, and what each record asks for.
+#![tactic(auto)]
+
 pub mod kind;
 pub mod line;
 pub mod order;

@@ -1,4 +1,6 @@
 // Runs the search on worked meshes, and prints the path of each stream, or what its source reaches.
+#![tactic(auto)]
+
 ghost use Rattle.search.specs.Graphs.{Lawful};
 ghost use Rattle.search.specs.Incidences.{IndexOf};
 ghost use Rattle.grounds.specs.Nets.{mesh_at};

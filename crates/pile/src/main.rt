@@ -1,4 +1,6 @@
 // Runs a pile of layers, Trim over Trim over augmenting paths, beside the bare engine, and prints each job's total.
+#![tactic(auto)]
+
 use augmenting::augmenting::Augmenting;
 use engine::greatest::greatest_total;
 use engine::trim::Trim;

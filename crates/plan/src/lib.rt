@@ -1,4 +1,6 @@
 // Plans for two streams over links of any type: drawing one with any engine, and judging one that is proposed.
+#![tactic(auto)]
+
 mod cuts;
 pub mod drawing;
 pub mod flaw;

@@ -1,4 +1,6 @@
 // Runs the order file on standard input, and prints a line for each order.
+#![tactic(auto)]
+
 use augmenting::augmenting::Augmenting;
 use book::book::Book;
 use engine::trim::Trim;

@@ -1,5 +1,7 @@
 // Small meshes with two streams, through preflow pushing and through Trim over it: the greatest sum of both streams,
 // the greatest total of stream 1, and what stream 2 carries beside it.
+#![tactic(auto)]
+
 use engine::arc::Arc;
 use engine::engine::Engine;
 use engine::greatest::greatest_total;

@@ -1,4 +1,6 @@
 // Runs order files that are short, damaged, at a limit or refused, each on a new book, and prints what is told.
+#![tactic(auto)]
+
 use augmenting::augmenting::Augmenting;
 use book::book::Book;
 use orders::line::MOST_BYTES;

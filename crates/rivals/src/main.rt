@@ -1,4 +1,6 @@
 // Solves random jobs by both engines, and by preflow pushing under two layers of Trim, and compares the totals fed.
+#![tactic(auto)]
+
 use augmenting::augmenting::Augmenting;
 use engine::greatest::greatest_total;
 use engine::trim::Trim;

@@ -1,4 +1,6 @@
 // A first-in-first-out queue, an index of incident links, and one search for every ground.
+#![tactic(auto)]
+
 mod build;
 pub mod find;
 pub mod ground;

@@ -1,4 +1,6 @@
 // The sheet: what a held plan tells of itself, and a route over the shares that it carries.
+#![tactic(auto)]
+
 pub mod answers;
 mod carried;
 pub mod plan;

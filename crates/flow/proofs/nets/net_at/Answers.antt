@@ -16,7 +16,7 @@ loop-i-preserved g c =
     let f = get_or c.args.shares.now i (pos 0) in
     let l : i < 512 = omega arith in
     let r : to_z w32 (of_z w32 f) ≡ f = search (rules, ints) in
-    turn _ c.link-net-sum.result _ _ _ i c.loop-i.invariant.0 c.loop-i.invariant.1 l (c.link-net-sum.ensures.value ∙ ap (λ z. only (eqb (g.E.Edge.low x) v) z -ℤ only (eqb (g.E.Edge.high x) v) z) r) c.link-net-sum.ensures.small (leaving_step g.E.Edge.low g.E.Edge.high (λ u. eqb u v) c.args.links.now c.args.shares.now i x c.index-links-i.is c.loop-i-test.true)
+    turn _ c.link_net-sum.result _ _ _ i c.loop-i.invariant.0 c.loop-i.invariant.1 l (c.link_net-sum.ensures.value ∙ ap (λ z. only (eqb (g.E.Edge.low x) v) z -ℤ only (eqb (g.E.Edge.high x) v) z) r) c.link_net-sum.ensures.small (leaving_step g.E.Edge.low g.E.Edge.high (λ u. eqb u v) c.args.links.now c.args.shares.now i x c.index-links-i.is c.loop-i-test.true)
 
 pub returns : goal.returns
 returns g c = c.loop-i.invariant.0 ∙ ap (λ ls. net g.E.Edge.low g.E.Edge.high ls c.args.shares.now c.args.cabinet) (take_all c.loop-i.i c.args.links.now c.loop-i-test.false)
