@@ -1,7 +1,7 @@
 -- The chain of the marks back from a reached cabinet is a simple path from the start.
 use Rattle.std.proofs.Common.{◌≡◌, ℕ, zero, suc, ◌+◌, ◌-◌, ◌<◌, ◌≤◌, true, ◌⊎◌, List, [], ◌∷◌, ◌++◌, length, take, drop, set, sym, refl, ap, ◌∙◌, subst, inl, inr, arith}
 use Rattle.std.specs.List.{between, AllByRecursion as All}
-use Rattle.std.proofs.lemmas.List.{drop-set, drop_set_lt, append_assoc, append-nil}
+use Rattle.std.proofs.lemmas.List.{drop-set, drop-set-lt, append_assoc, append-nil}
 use Rattle.std.proofs.ByRecursion.{All-push, All-weaker}
 use Rattle.search.specs.Graphs.{Graph, Step, across}
 use Rattle.search.specs.Spreads.{mark, chain, Stepped, Tree}
@@ -93,7 +93,7 @@ tracing_more ms goal count path ps at a left pos le long e f t =
     (step ms goal count path at (left - 1) (omega arith) (omega arith) (subst (Tracing ms goal count path at) z t)))
 
 pub tracing_rest : (count : ℕ) (path ps old : List ℕ) (left x : ℕ) → 0 < left → left ≤ count → ps ≡ set path (left - 1) x → drop count path ≡ drop count old → drop count ps ≡ drop count old
-tracing_rest count path ps old left x pos le f r = ap (drop count) f ∙ drop_set_lt count path (left - 1) x (omega arith) ∙ r
+tracing_rest count path ps old left x pos le f r = ap (drop count) f ∙ drop-set-lt count path (left - 1) x (omega arith) ∙ r
 
 pub tracing_all : (ms : List Mark) (goal count : ℕ) (path : List ℕ) (at left : ℕ) → left ≤ 0 → Tracing ms goal count path at left → take count path ≡ chain ms goal count
 tracing_all ms goal count path at left z t =

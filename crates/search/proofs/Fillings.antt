@@ -3,7 +3,7 @@ use Rattle.std.proofs.Common.{◌≡◌, ℕ, zero, suc, ◌+◌, ◌-◌, ◌*�
 use Rattle.std.specs.List.{between, range_with_len}
 use Rattle.std.proofs.lemmas.List.FromFn.{length-range_with_len, map-range_with_len_more, take-map-range_with_len}
 use Rattle.std.proofs.lemmas.List.Elements.{filter-append}
-use Rattle.std.proofs.lemmas.List.{append-nil, map-id, length-append, length-set, length-drop, get_or-set_same, get_or-set_other, drop_set_lt, drop-set-add, take-set-le, take_more_set, take_all, get_or-replicate, get_or_read}
+use Rattle.std.proofs.lemmas.List.{append-nil, map-id, length-append, length-set, length-drop, get_or-set_same, get_or-set_other, drop-set-lt, drop-set-add, take-set-le, take_more_set, take_all, get_or-replicate, get_or_read}
 use Rattle.std.proofs.lemmas.List.Sums.{length-filter, count_by-le-length, sum_by-take-le, sum_by-set, sum_by_more}
 use Rattle.std.proofs.lemmas.Bool.{cases_eq, cases_lt, eq-eqb, ne_eqb, eqb-true, cond-true, cond-false}
 use Rattle.search.specs.Graphs.{Mesh, mesh_by, Lawful, touches, incident}
@@ -177,7 +177,7 @@ module _ {m : Mesh} {starts : List ℕ} (s : Starts starts m) where
 
 -- A write before or behind a part of a list, and one at its end.
 between_before : (xs : List ℕ) (i j p x : ℕ) → p < i → between i j (set xs p x) ≡ between i j xs
-between_before xs i j p x h = ap (take (j - i)) (drop_set_lt i xs p x h)
+between_before xs i j p x h = ap (take (j - i)) (drop-set-lt i xs p x h)
 
 at_offset : (xs : List ℕ) (i p x : ℕ) → i ≤ p → drop i (set xs p x) ≡ set (drop i xs) (p - i) x
 at_offset xs i p x h =

@@ -1,6 +1,6 @@
 -- What a push and a pop do to the items of a ring.
 use Rattle.std.proofs.Common.{◌≡◌, ℕ, zero, suc, ◌+◌, ◌-◌, ◌<◌, ◌≤◌, eqb, ltb, ◌⊎◌, List, [], ◌∷◌, ◌++◌, length, get_or, take, drop, set, sym, refl, ap, ◌∙◌, inl, inr, add-one, arith, length-append, length-drop, length-set, length-take}
-use Rattle.std.proofs.lemmas.List.{take-append-le, take_more_set, drop-set-add, drop_set_lt, set-append_right, drop_more, drop_all}
+use Rattle.std.proofs.lemmas.List.{take-append-le, take_more_set, drop-set-add, drop-set-lt, set-append_right, drop_more, drop_all}
 use Rattle.std.proofs.lemmas.Bool.{cases_eq, cases_lt, eq-eqb, ne_eqb, cond-true, cond-false, lt-ltb, le-ltb}
 use Rattle.search.specs.Rings.{held, after, behind}
 
@@ -24,7 +24,7 @@ module _ {T : Type 0} (ps : List T) where
   far head len at x h l f e =
       let n : length (drop head ps) ≡ length ps - head = length-drop head ps in
       let k : len < length (drop head ps ++ ps) = simp length-append (omega arith) in
-      let a : drop head (set ps at x) ≡ drop head ps = drop_set_lt head ps at x (omega arith) in
+      let a : drop head (set ps at x) ≡ drop head ps = drop-set-lt head ps at x (omega arith) in
       ap (λ (d : List T). take (len + 1) (d ++ set ps at x)) a
       ∙ ap (λ (i : ℕ). take (len + 1) (drop head ps ++ set ps i x)) e
       ∙ ap (take (len + 1)) (sym (set-append_right (drop head ps) ps (length ps - head) len x n f))

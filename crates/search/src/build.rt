@@ -28,9 +28,9 @@ fn bump_both(counts: &mut [u16; 64], ends: Ends)
 
 // How many links touch each cabinet.
 pub fn count<T: Joins>(links: &[T]) -> [u16; 64]
-    requires { Lawful (mesh_by first second none links.now) }
+    requires { Lawful (mesh_by T.first T.second T.none links.now) }
     ensures long { length result ≡ 64 }
-    ensures counts { Counts result (mesh_by first second none links.now) }
+    ensures counts { Counts result (mesh_by T.first T.second T.none links.now) }
     ensures total { sum result ≡ 2 * length links.now }
 {
     let mut counts = [0u16; 64];
@@ -79,9 +79,9 @@ fn put_both(entries: &mut [u16; 1024], next: &mut [u16; 65], ends: Ends, link: u
 
 // Writes each link into the rows of its two ends.
 pub fn fill<T: Joins>(links: &[T], starts: &[u16; 65]) -> [u16; 1024]
-    requires lawful { Lawful (mesh_by first second none links.now) }
-    requires starts { Starts starts.now (mesh_by first second none links.now) }
-    ensures { Indexes starts.now result (mesh_by first second none links.now) }
+    requires lawful { Lawful (mesh_by T.first T.second T.none links.now) }
+    requires starts { Starts starts.now (mesh_by T.first T.second T.none links.now) }
+    ensures { Indexes starts.now result (mesh_by T.first T.second T.none links.now) }
 {
     let mut entries = [0u16; 1024];
     let mut next = *starts;

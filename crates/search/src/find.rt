@@ -62,7 +62,7 @@ pub fn find_path<G: Ground>(
     requires start { start < 64 }
     requires goal { goal < 64 }
     requires path { 64 ≤ length path.old }
-    ensures { Found (graph ground.now) start goal result path.old path.new side.old side.new }
+    ensures { Found (G.graph ground.now) start goal result path.old path.new side.old side.new }
 {
     let mut marks = [Mark {
         reached: false,

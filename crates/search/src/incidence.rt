@@ -18,8 +18,8 @@ pub struct Incidence {
 impl Incidence {
     // The index of these links.
     pub fn of<T: Joins>(links: &[T]) -> Incidence
-        requires { Lawful (mesh_by first second none links.now) }
-        ensures { Indexes result.starts result.entries (mesh_by first second none links.now) }
+        requires { Lawful (mesh_by T.first T.second T.none links.now) }
+        ensures { Indexes result.starts result.entries (mesh_by T.first T.second T.none links.now) }
     {
         let counts = count(links);
         let starts = starts_of(&counts);

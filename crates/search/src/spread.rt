@@ -10,8 +10,8 @@ use crate::queue::Queue;
 
 // Where the step from `at` over `link` leads.
 fn far_end<G: Ground>(ground: &G, at: u8, link: u16) -> u8
-    requires link { link < (graph ground.now).mesh.links }
-    ensures value { result ≡ across (graph ground.now).mesh at link }
+    requires link { link < (G.graph ground.now).mesh.links }
+    ensures value { result ≡ across (G.graph ground.now).mesh at link }
     ensures bound { result < 64 }
 {
     let ends = ground.ends(link);
@@ -52,12 +52,12 @@ fn offer<G: Ground>(
     queue: &mut Queue<Arrival>,
 )
     requires at { at < 64 }
-    requires link { link < (graph ground.now).mesh.links }
+    requires link { link < (G.graph ground.now).mesh.links }
     requires known { (mark marks.old at).reached ≡ true }
-    requires spread { Spread (graph ground.now) start marks.old (items queue.old) }
+    requires spread { Spread (G.graph ground.now) start marks.old (items queue.old) }
     requires room { 64 ≤ room queue.old }
-    ensures marks { marks.new ≡ offered (graph ground.now) marks.old at link }
-    ensures items { items queue.new ≡ queued (graph ground.now) marks.old (items queue.old) at link }
+    ensures marks { marks.new ≡ offered (G.graph ground.now) marks.old at link }
+    ensures items { items queue.new ≡ queued (G.graph ground.now) marks.old (items queue.old) at link }
     ensures room { room queue.new ≡ room queue.old }
 {
     let to = far_end(ground, at, link);
@@ -73,9 +73,9 @@ fn offer<G: Ground>(
 // Takes each open step from `at`.
 fn leave<G: Ground>(ground: &G, start: u8, at: u8, marks: &mut [Mark], queue: &mut Queue<Arrival>)
     requires room { 64 ≤ room queue.old }
-    requires leaving { Leaving (graph ground.now) start marks.old (items queue.old) at [] }
+    requires leaving { Leaving (G.graph ground.now) start marks.old (items queue.old) at [] }
     ensures room { room queue.new ≡ room queue.old }
-    ensures leaving { Leaving (graph ground.now) start marks.new (items queue.new) at (incident (graph ground.now).mesh at) }
+    ensures leaving { Leaving (G.graph ground.now) start marks.new (items queue.new) at (incident (G.graph ground.now).mesh at) }
     ensures fewer { unreached marks.new + length (items queue.new) ≡ unreached marks.old + length (items queue.old) }
 {
     for link in ground.links_at(at) {
@@ -87,8 +87,8 @@ fn leave<G: Ground>(ground: &G, start: u8, at: u8, marks: &mut [Mark], queue: &m
 fn flood<G: Ground>(ground: &G, start: u8, goal: u8, marks: &mut [Mark], queue: &mut Queue<Arrival>)
     requires goal { goal < 64 }
     requires room { 64 ≤ room queue.old }
-    requires resting { Resting (graph ground.now) start marks.old (items queue.old) }
-    ensures { Ended (graph ground.now) start goal marks.new }
+    requires resting { Resting (G.graph ground.now) start marks.old (items queue.old) }
+    ensures { Ended (G.graph ground.now) start goal marks.new }
 {
     while !marks[goal as usize].reached {
         let Some(arrival) = queue.pop() else {
@@ -125,7 +125,7 @@ pub fn spread_from<G: Ground>(ground: &G, start: u8, goal: u8, marks: &mut [Mark
     requires start { start < 64 }
     requires goal { goal < 64 }
     requires marks { marks.old ≡ replicate 64 blank }
-    ensures { Ended (graph ground.now) start goal marks.new }
+    ensures { Ended (G.graph ground.now) start goal marks.new }
 {
     let mut places = [Arrival {
         cabinet: 0,

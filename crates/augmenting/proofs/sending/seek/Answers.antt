@@ -7,5 +7,5 @@ pub returns-in-Some : goal.returns-in-Some
 returns-in-Some c =
     let n = c.in-Some.count in
     let found = c.in-Some.ensures in
-    let front : take (n - 0) c.find-path.new.path ≡ take n c.find-path.new.path = ap (λ m. take m c.find-path.new.path) (sub-zero n) in
-    found_route c.args.network.now.job.now _ _ _ _ c.find-path.new.path _ n _ front c.least-free-by.ensures c.requires.some found.way found.short
+    let front : take (n - 0) c.find_path.new.path ≡ take n c.find_path.new.path = ap (λ m. take m c.find_path.new.path) (sub-zero n) in
+    found_route c.args.network.now.job.now _ _ _ _ c.find_path.new.path _ n _ front c.least_free-by.ensures c.requires.some found.way found.short

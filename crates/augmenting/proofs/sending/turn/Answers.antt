@@ -19,9 +19,9 @@ returns-then-room-eq0 c =
     let j = c.args.network.now.job.now in
     let p = c.args.pair in
     let r = c.args.amounts.now in
-    let room = room_at c.most-most.result j.most r p _ c.most-most.ensures c.room-between-room.ensures in
-    let gives = c.can-give-side.ensures ∙ ap (λ t. ltb (feed_of r p.from) (feed_of t p.from)) c.most-most.ensures in
-    record { feasible = c.requires; beyond = refl; turned = (refl, refl, blocked_full j _ r p c.can-give-side.result (sym room ∙ c.if-room-eq0.true) gives) }
+    let room = room_at c.most-most.result j.most r p _ c.most-most.ensures c.room_between-room.ensures in
+    let gives = c.can_give-side.ensures ∙ ap (λ t. ltb (feed_of r p.from) (feed_of t p.from)) c.most-most.ensures in
+    record { feasible = c.requires; beyond = refl; turned = (refl, refl, blocked_full j _ r p c.can_give-side.result (sym room ∙ c.if-room-eq0.true) gives) }
 
 pub returns : goal.returns
 returns c =
@@ -33,7 +33,7 @@ returns c =
     let fs = c.send-by.new.flow in
     let some : 0 < x = omega (arith, c.if-by-eq0.false) in
     let low = c.send-by.ensures.low in
-    let room = room_at c.most-most.result j.most r c.args.pair _ c.most-most.ensures c.room-between-room.ensures in
+    let room = room_at c.most-most.result j.most r c.args.pair _ c.most-most.ensures c.room_between-room.ensures in
     let from-feed : x ≤ feed_of j.most i - feed_of r i = omega (arith, low, room) in
     let to-drain : x ≤ drain_of j.most k - drain_of r k = omega (arith, low, room) in
     let feed-at = c.feed.ensures ∙ ap (λ t. feed_of t i) c.at-at.ensures in
@@ -42,7 +42,7 @@ returns c =
     subst (λ u. Moved (links_in c.args.network.now) c.args.flow.now fs x u (drain_of j.at k)) feed-at
     (subst (λ w. Moved (links_in c.args.network.now) c.args.flow.now fs x c.feed.result w) drain-at (c.send-by.ensures.some some)) in
     record {
-      feasible = subst (FeasibleFlow j fs) (sym c.add-sent.ensures) (feasible_sent j c.args.flow.now fs r x i k c.requires moved from-feed to-drain);
+      feasible = subst (FeasibleFlow j fs) (sym c.add_sent.ensures) (feasible_sent j c.args.flow.now fs r x i k c.requires moved from-feed to-drain);
       beyond = moved.beyond;
-      turned = subst (λ a. unfed j a < unfed j r) (sym c.add-sent.ensures) (unfed_sent j r x i k some from-feed);
+      turned = subst (λ a. unfed j a < unfed j r) (sym c.add_sent.ensures) (unfed_sent j r x i k some from-feed);
     }

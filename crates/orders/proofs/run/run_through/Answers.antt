@@ -11,8 +11,8 @@ pub loop-order-init : goal.loop-order-init
 loop-order-init g c = (c.new-reader.ensures.file, told_none _ _ _ _ c.new-reader.ensures.place c.new-text.ensures.bytes)
 
 -- There are at most half as many orders as bytes.
-pub overflow-add-orders : goal.overflow-add-orders
-overflow-add-orders g c =
+pub overflow_add-orders : goal.overflow_add-orders
+overflow_add-orders g c =
     let so = c.loop-order.invariant in
     omega (arith, counted _ _ so.1 so.0 c.loop-order.reader.within)
 
@@ -22,15 +22,15 @@ loop-order-smaller g c =
     let so = c.loop-order.invariant in
     let read = c.in-Ok.ensures in
     let long = ap length (read.file ∙ so.0) in
-    omega (arith, taken_some _ _ read.read, read.place, long, c.next-order.new.self.within)
+    omega (arith, taken_some _ _ read.read, read.place, long, c.next_order.new.self.within)
 
 -- One order more was read, carried out and told.
 pub loop-order-preserved : goal.loop-order-preserved
 loop-order-preserved g c =
     let so = c.loop-order.invariant in
     let read = c.in-Ok.ensures in
-    let carried = subst (λ (at : ℕ). Carried (c.loop-order.orders + 1) at (view c.loop-order.book) c.in-Ok.order c.carry-out.result (view c.carry-out.new.book)) c.place-at.ensures c.carry-out.ensures in
-    (read.file ∙ so.0, told_more _ _ so.1 so.0 (view c.carry-out.new.book) c.carry-out.result c.in-Ok.order read.read read.place carried c.in-ok-put.ensures)
+    let carried = subst (λ (at : ℕ). Carried (c.loop-order.orders + 1) at (view c.loop-order.book) c.in-Ok.order c.carry_out.result (view c.carry_out.new.book)) c.place-at.ensures c.carry_out.ensures in
+    (read.file ∙ so.0, told_more _ _ so.1 so.0 (view c.carry_out.new.book) c.carry_out.result c.in-Ok.order read.read read.place carried c.in_ok-put.ensures)
 
 -- The last line was told.
 pub returns : goal.returns
@@ -38,5 +38,5 @@ returns g c =
     let so = c.loop-order.invariant in
     let read = c.in-Err.ensures in
     let stays : c.place.result ≡ c.loop-order.reader.place = omega (arith, c.place.ensures, read.place, taken_none _ _ read.read) in
-    let line : c.last-line.result ≡ last_line c.loop-order.orders c.loop-order.reader.place c.in-Err.stop = c.last-line.ensures ∙ ap (λ (at : ℕ). last_line c.loop-order.orders at c.in-Err.stop) stays in
-    told_all _ _ so.1 so.0 _ c.in-Err.stop read.read (c.in-ok-put-2.ensures ∙ ap (λ (l : Line). string_bytes c.loop-order.text ++ ended l) line)
+    let line : c.last_line.result ≡ last_line c.loop-order.orders c.loop-order.reader.place c.in-Err.stop = c.last_line.ensures ∙ ap (λ (at : ℕ). last_line c.loop-order.orders at c.in-Err.stop) stays in
+    told_all _ _ so.1 so.0 _ c.in-Err.stop read.read (c.in_ok-put-2.ensures ∙ ap (λ (l : Line). string_bytes c.loop-order.text ++ ended l) line)

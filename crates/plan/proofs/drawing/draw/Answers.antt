@@ -14,8 +14,8 @@ use Rattle.plan.proofs.drawing.draw.Goals as goal
 front : (n : ℕ) (arcs ls : List Arc) → take n arcs ≡ ls → take (n - 0) arcs ≡ ls
 front n arcs ls e = ap (λ m. take m arcs) (sub-zero n) ∙ e
 
-pub draw-halves-requires : goal.draw-halves-requires
-draw-halves-requires g c =
+pub draw_halves-requires : goal.draw_halves-requires
+draw_halves-requires g c =
     let links = c.args.links.now in
     let arc = half_arc g.L.Edge.low g.L.Edge.high g.L.Edge.capacity in
     let e = front (length links) c.halves-arcs.result (map arc links) c.halves-arcs.ensures in
@@ -34,7 +34,7 @@ returns g c =
     let arc = half_arc g.L.Edge.low g.L.Edge.high g.L.Edge.capacity in
     let e = front (length links) c.halves-arcs.result (map arc links) c.halves-arcs.ensures in
     let long : length (take (length links - 0) c.halves-arcs.result) ≡ length links = ap length e ∙ length-map links arc in
-    let d = c.draw-halves in
+    let d = c.draw_halves in
     record {
       drawn = drawn_over g.L.Edge.low g.L.Edge.high g.L.Edge.capacity c.args.pairs links d.new.one d.new.two (members d.result.cut) (members d.result.first) (subst (λ (ls : List Arc). Drawn tail_of head_of limit_of c.args.pairs ls d.new.one d.new.two (members d.result.cut) (members d.result.first)) e d.ensures.drawn);
       beyond-one = subst (λ (n : ℕ). drop n d.new.one ≡ drop n c.args.one.now) long d.ensures.beyond-one;

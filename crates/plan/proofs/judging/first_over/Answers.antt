@@ -22,14 +22,14 @@ loop-i-preserved g c =
     let ef : to_z w32 (of_z w32 f) ≡ f = search (rules, ints) in
     let eh : to_z w32 (of_z w32 h) ≡ h = search (rules, ints) in
     let e = at_link g.L.Edge.capacity c.args.links.now c.args.one.now c.args.two.now i c.index-links-i.result _ _ c.index-links-i.is c.loop-i-test.true ef eh in
-    none_more i _ c.loop-i.invariant (e ∙ not-false _ (sym c.if-is-over.ensures))
+    none_more i _ c.loop-i.invariant (e ∙ not-false _ (sym c.if-is_over.ensures))
 
-pub returns-then-is-over : goal.returns-then-is-over
-returns-then-is-over g c =
+pub returns-then-is_over : goal.returns-then-is_over
+returns-then-is_over g c =
     let i = c.loop-i.i in
     let f = get_or c.args.one.now i (pos 0) in
     let h = get_or c.args.two.now i (pos 0) in
     let ef : to_z w32 (of_z w32 f) ≡ f = search (rules, ints) in
     let eh : to_z w32 (of_z w32 h) ≡ h = search (rules, ints) in
     let e = at_link g.L.Edge.capacity c.args.links.now c.args.one.now c.args.two.now i c.index-links-i.result _ _ c.index-links-i.is c.loop-i-test.true ef eh in
-    sym (lowest_here (length c.args.links.now) i _ c.loop-i-test.true c.loop-i.invariant (e ∙ not-true _ (sym c.if-is-over.ensures)))
+    sym (lowest_here (length c.args.links.now) i _ c.loop-i-test.true c.loop-i.invariant (e ∙ not-true _ (sym c.if-is_over.ensures)))

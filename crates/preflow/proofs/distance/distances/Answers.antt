@@ -20,4 +20,4 @@ pub loop-level-preserved : goal.loop-level-preserved
 loop-level-preserved c =
     let ls : List Arc = links_in c.args.network.now in
     let job = c.args.network.now.job.now in
-    (c.next-level.array_long, settled_more ls job.sound job.at job.most job.placed.2 job.placed.3 c.loop-level.heights c.next-level.new.heights c.loop-level.level (omega arith) c.loop-level.invariant.1 c.next-level.ensures.lowered c.next-level.ensures.into)
+    (c.next_level.array_long, settled_more ls job.sound job.at job.most job.placed.2 job.placed.3 c.loop-level.heights c.next_level.new.heights c.loop-level.level (omega arith) c.loop-level.invariant.1 c.next_level.ensures.lowered c.next_level.ensures.into)

@@ -20,8 +20,8 @@ loop-v-preserved c =
     elim c.if-heights-v.branch [
       | then-heights-v w ↦
           subst So (sym w.heights-is)
-          (let after : List ℕ = w.reach-all.new.heights in
-          let e = w.reach-all.ensures in
+          (let after : List ℕ = w.reach_all.new.heights in
+          let e = w.reach_all.ensures in
           (lowered_then (d + 1) c.args.heights.now hs after inv.1 e.lowered, level_more ls sound hs after d v e.lowered c.loop-v-test.true inv.2 (λ _. e.into)))
       | else-heights-v w ↦
           subst So (sym w.heights-is)

@@ -12,8 +12,8 @@ use Rattle.preflow.specs.Ways.{Bounds, lowered}
 use Rattle.preflow.proofs.Lowers.{scan_le, scan_leads, scan_all}
 use Rattle.preflow.proofs.lowest.over_links.Goals as goal
 
-pub over-link-best-requires : goal.over-link-best-requires
-over-link-best-requires c =
+pub over_link-best-requires : goal.over_link-best-requires
+over_link-best-requires c =
     let e = c.row-link-items.ensures ∙ c.args.network.now.indexed c.args.at c.requires.inside in
     record {
       listed = (row_link (mesh_of (links_in c.args.network.now)) c.args.at c.row-link-items.result.now c.loop-link.link-index e c.loop-link-test.true).0;
@@ -31,8 +31,8 @@ loop-link-preserved c =
     let i : ℕ = c.loop-link.link-index in
     let l : ℕ = get_or c.row-link-items.result.now c.loop-link.link-index 0 in
     let inv = c.loop-link.invariant in
-    let next = c.over-link-best.result in
-    let step = c.over-link-best.ensures in
+    let next = c.over_link-best.result in
+    let step = c.over_link-best.ensures in
     let e : c.row-link-items.result.now ≡ incident (mesh_of (links_in c.args.network.now)) c.args.at = c.row-link-items.ensures ∙ c.args.network.now.indexed c.args.at c.requires.inside in
     let at = row_link (mesh_of ls) v row i e c.loop-link-test.true in
     let seen = subst (λ (xs : List ℕ). All (Bounds ls fs hs v c.loop-link.best.height) (take i xs)) (sym e) inv.1 in (

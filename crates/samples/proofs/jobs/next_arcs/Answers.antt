@@ -7,6 +7,6 @@ pub loop-i-preserved : goal.loop-i-preserved
 loop-i-preserved c =
     let ls = c.loop-i.links in
     let i = c.loop-i.i in
-    let arc = c.next-arc.result in
+    let arc = c.next_arc.result in
     let place : i < length ls = omega arith in
-    (length-set ls i arc ∙ c.loop-i.invariant.0, below_more _ _ (λ k h. subst Sound (sym (get_or-set_other ls i k arc blank (omega arith))) (c.loop-i.invariant.1 k h)) (subst Sound (sym (get_or-set_same ls i arc blank place)) c.next-arc.ensures))
+    (length-set ls i arc ∙ c.loop-i.invariant.0, below_more _ _ (λ k h. subst Sound (sym (get_or-set_other ls i k arc blank (omega arith))) (c.loop-i.invariant.1 k h)) (subst Sound (sym (get_or-set_same ls i arc blank place)) c.next_arc.ensures))

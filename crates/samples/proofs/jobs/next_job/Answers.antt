@@ -25,11 +25,11 @@ pub returns : goal.returns
 returns c =
     let s = c.args.shape in
     let n = s.links in
-    let all = c.next-arcs-links.result in
-    let usable : Usable s = c.if-not-is-usable.ensures.0 refl in
-    let room : n ≤ length all = omega (arith, usable.few, c.next-arcs-links.ensures.long) in
+    let all = c.next_arcs-links.result in
+    let usable : Usable s = c.if-not-is_usable.ensures.0 refl in
+    let room : n ≤ length all = omega (arith, usable.few, c.next_arcs-links.ensures.long) in
     let front : take (n - 0) all ≡ take n all = ap (λ m. take m all) (sub-zero n) in
     let count : length (take n all) ≡ n = length-take-le n all room in
-    shaped s (take n all) c.next-places-at.result c.next-limits-most.result c.new.result count
-    (record { few = omega (arith, count, usable.few); sound = front_sound all n room c.next-arcs-links.ensures.sound; placed = c.next-places-at.ensures; limited = c.next-limits-most.ensures })
-    (subst (λ ls. Made ls c.next-places-at.result c.next-limits-most.result c.new.result) front c.new.ensures)
+    shaped s (take n all) c.next_places-at.result c.next_limits-most.result c.new.result count
+    (record { few = omega (arith, count, usable.few); sound = front_sound all n room c.next_arcs-links.ensures.sound; placed = c.next_places-at.ensures; limited = c.next_limits-most.ensures })
+    (subst (λ ls. Made ls c.next_places-at.result c.next_limits-most.result c.new.result) front c.new.ensures)

@@ -5,8 +5,8 @@ use Rattle.search.proofs.build.count.Goals as goal
 pub loop-link-init : goal.loop-link-init
 loop-link-init g c = counting_none _
 
-pub bump-both-requires : goal.bump-both-requires
-bump-both-requires g c =
+pub bump_both-requires : goal.bump_both-requires
+bump_both-requires g c =
     let h : c.loop-link.link-index < length c.args.links.now = omega arith in
     let e = c.ends.ensures in
     let j = joint g.T.Joins.first g.T.Joins.second g.T.Joins.none _ _ c.loop-link.link-index _ _ c.requires h c.link-item.is e.first e.second in
@@ -23,4 +23,4 @@ loop-link-preserved g c =
     let h : c.loop-link.link-index < length c.args.links.now = omega arith in
     let e = c.ends.ensures in
     let j = joint g.T.Joins.first g.T.Joins.second g.T.Joins.none _ _ c.loop-link.link-index _ _ c.requires h c.link-item.is e.first e.second in
-    counting_more _ c.loop-link.counts _ _ _ _ _ j refl c.bump-both.ensures c.loop-link.invariant
+    counting_more _ c.loop-link.counts _ _ _ _ _ j refl c.bump_both.ensures c.loop-link.invariant

@@ -4,8 +4,8 @@ use Rattle.std.proofs.lemmas.List.Sums.{sum_by_more, sum_by-take-le}
 use Rattle.search.proofs.Fillings.{starts_more}
 use Rattle.search.proofs.build.starts_of.Goals as goal
 
-pub overflow-add-starts : goal.overflow-add-starts
-overflow-add-starts c =
+pub overflow_add-starts : goal.overflow_add-starts
+overflow_add-starts c =
     let i = c.loop-v.v in
     let xs = c.args.counts.now in
     let long : length xs ≡ 64 = omega arith in

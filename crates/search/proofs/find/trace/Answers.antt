@@ -5,7 +5,7 @@ use Rattle.search.proofs.find.trace.Goals as goal
 pub loop-left-preserved : goal.loop-left-preserved
 loop-left-preserved c =
     let i = c.loop-left.invariant in
-    let s = c.step-back-at.ensures in (
+    let s = c.step_back-at.ensures in (
       omega (arith, s.from, c.requires.near c.loop-left.at i.0),
       omega arith,
       tracing_more c.args.marks.now c.args.goal _ c.loop-left.path _ c.loop-left.at _ c.loop-left.left (omega arith) i.1 (omega arith) s.from s.path i.2,

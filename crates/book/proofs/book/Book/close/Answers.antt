@@ -4,8 +4,8 @@ use Rattle.book.specs.Receipts.{closed, trial_of}
 use Rattle.book.proofs.Pasts.{then, stays, trial_there}
 use Rattle.book.proofs.book.Book.close.Goals as goal
 
-pub invariant-of-self : goal.invariant-of-self
-invariant-of-self c = (then _ _ (Close (trial_of c.args.receipt)) (closed c.close.result) c.args.self.now.reached c.close.ensures.step, tt)
+pub invariant_of-self : goal.invariant_of-self
+invariant_of-self c = (then _ _ (Close (trial_of c.args.receipt)) (closed c.close.result) c.args.self.now.reached c.close.ensures.step, tt)
 
 pub close-requires : goal.close-requires
 close-requires c = trial_there (seen c.args.self.now.ledger) c.args.self.now.reached

@@ -4,8 +4,8 @@ use Rattle.book.proofs.Laws.{orderly}
 use Rattle.book.proofs.Pasts.{then, stays}
 use Rattle.book.proofs.book.Book.draw.Goals as goal
 
-pub invariant-of-self : goal.invariant-of-self
-invariant-of-self g c = (then _ _ Draw c.draw.result c.args.self.now.reached c.draw.ensures.step, tt)
+pub invariant_of-self : goal.invariant_of-self
+invariant_of-self g c = (then _ _ Draw c.draw.result c.args.self.now.reached c.draw.ensures.step, tt)
 
 pub draw-requires : goal.draw-requires
 draw-requires g c = orderly (seen c.args.self.now.ledger) c.args.self.now.reached

@@ -7,7 +7,7 @@ use Rattle.book.proofs.ledger.Ledger.admit.Goals as goal
 pub returns : goal.returns
 returns c = record {
   step =
-      admitted_step (seen c.args.self.now) c.in-Some.pairs c.as-slice.result.now (proposed c.args.proposal) _ _ c.copy-front.new.to c.copy-front-2.new.to _ _ (record { cut = c.side-of.result; first = c.side-of-2.result })
-      c.in-Some.is c.as-slice.ensures.value (sym c.judge.ensures ∙ c.in-default-judge.is) (refilled_by _ _ _ (omega arith)) (refilled_by _ _ _ (omega arith)) c.copy-front.ensures c.copy-front-2.ensures c.side-of.ensures c.side-of-2.ensures;
+      admitted_step (seen c.args.self.now) c.in-Some.pairs c.as_slice.result.now (proposed c.args.proposal) _ _ c.copy_front.new.to c.copy_front-2.new.to _ _ (record { cut = c.side_of.result; first = c.side_of-2.result })
+      c.in-Some.is c.as_slice.ensures.value (sym c.judge.ensures ∙ c.in_default-judge.is) (refilled_by _ _ _ (omega arith)) (refilled_by _ _ _ (omega arith)) c.copy_front.ensures c.copy_front-2.ensures c.side_of.ensures c.side_of-2.ensures;
   stays = tt;
 }

@@ -6,8 +6,8 @@ use Rattle.orders.proofs.ReadAll.{joined_long, read_more, read_stopped, orders_a
 use Rattle.orders.proofs.survey.Survey.of.Goals as goal
 
 -- There are at most half as many records as bytes.
-pub overflow-add-records : goal.overflow-add-records
-overflow-add-records c =
+pub overflow_add-records : goal.overflow_add-records
+overflow_add-records c =
     let so = c.loop-records.invariant.1 in
     omega (arith, joined_long so.0, so.1.long, so.2, c.loop-records.reader.within, ap length c.loop-records.invariant.0)
 

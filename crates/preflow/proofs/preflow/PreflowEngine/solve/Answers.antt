@@ -26,9 +26,9 @@ drain-requires c =
     record {
       active = record {
         standing = become (links_of job) job.at job.most (begun job.most) state.amounts fs fs (filled job.at job.most) state.excess state.heights state.heights b.amounts refl b.excess refl begun-at;
-        queued = c.line-up.ensures.queued;
+        queued = c.line_up.ensures.queued;
       };
-      room = omega (arith, c.line-up.ensures.room, c.new-queue.ensures.room);
+      room = omega (arith, c.line_up.ensures.room, c.new-queue.ensures.room);
     }
 
 pub returns : goal.returns

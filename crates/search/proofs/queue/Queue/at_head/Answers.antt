@@ -6,4 +6,4 @@ pub returns : goal.returns
 returns g c =
     let q = c.args.self.now in
     let ps = q.places.now in
-    c.item-at.ensures ∙ ap (λ (xs : List g.row.T.Denot). get_or xs q.head c.item-at.result) (take_all (length ps - 0) ps (omega arith))
+    c.item_at.ensures ∙ ap (λ (xs : List g.row.T.Denot). get_or xs q.head c.item_at.result) (take_all (length ps - 0) ps (omega arith))

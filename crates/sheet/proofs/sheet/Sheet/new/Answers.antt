@@ -2,8 +2,8 @@ use Rattle.flow.proofs.Deciding.{shared_decides}
 use Rattle.mesh.specs.Links.{capacity_of}
 use Rattle.sheet.proofs.sheet.Sheet.new.Goals as goal
 
-pub invariant-of-result : goal.invariant-of-result
-invariant-of-result c =
+pub invariant_of-result : goal.invariant_of-result
+invariant_of-result c =
     let f = c.requires in (
       f.few,
       (
