@@ -1,7 +1,7 @@
 -- The least free amount of a path, and the steps of the loop that raises the flow along it.
 use Rattle.std.proofs.Common.{◌≡◌, ℕ, ◌+◌, ◌<◌, ◌≤◌, min, Bool, true, false, cond, eqb, leb, ◌⊎◌, List, [], ◌∷◌, length, get_or, drop, set, ℤ, pos, ◌+ℤ◌, ◌-ℤ◌, neg_ℤ, nat_abs, sym, refl, ap, ◌∙◌, subst, inl, inr, arith}
 use Rattle.std.specs.List.{AllByRecursion as All}
-use Rattle.std.proofs.lemmas.List.{get_or-set_other, drop_set_lt, drop_more, drop_all}
+use Rattle.std.proofs.lemmas.List.{get_or-set_other, drop-set-lt, drop_more, drop_all}
 use Rattle.std.proofs.lemmas.Bool.{eqb-true, eqb-false, leb-true, le-leb}
 use Rattle.flow.specs.Ranges.{most_limit}
 use Rattle.flow.specs.Nets.{only, net}
@@ -106,7 +106,7 @@ onward_more ls was fs x u at w l rest fs' at' long o e q =
       moved = record {
         within = within_set limit_of ls fs l z blank place o.moved.within (raise_fits (ahead ls at l) (get_or ls l blank).limit x (get_or fs l (pos 0)) (o.moved.within l blank listed) room);
         nets = λ v. join_nets _ (net tail_of head_of ls fs v) (net tail_of head_of ls was v) (only (eqb u v) (pos x)) (only (eqb at v) (pos x)) (only (eqb (across (mesh_of ls) at l) v) (pos x)) _ (leaving_set tail_of head_of (λ c. eqb c v) ls fs l y blank listed place) (o.moved.nets v) (step_net (ahead ls at l) (get_or ls l blank).tail (get_or ls l blank).head at v (pos x) refl (touch_cases (mesh_of ls) at l step.touching));
-        beyond = drop_set_lt (length ls) fs l z listed ∙ o.moved.beyond;
+        beyond = drop-set-lt (length ls) fs l z listed ∙ o.moved.beyond;
       };
       route = record {
         steps = open_set ls fs x l z (across (mesh_of ls) at l) rest o.route.once.0 o.route.steps.1;

@@ -37,6 +37,6 @@ returns g c =
     let d = c.draw_halves in
     record {
       drawn = drawn_over g.L.Edge.low g.L.Edge.high g.L.Edge.capacity c.args.pairs links d.new.one d.new.two (members d.result.cut) (members d.result.first) (subst (λ (ls : List Arc). Drawn tail_of head_of limit_of c.args.pairs ls d.new.one d.new.two (members d.result.cut) (members d.result.first)) e d.ensures.drawn);
-      beyond-one = subst (λ (n : ℕ). drop n d.new.one ≡ drop n c.args.one.now) long d.ensures.beyond-one;
-      beyond-two = subst (λ (n : ℕ). drop n d.new.two ≡ drop n c.args.two.now) long d.ensures.beyond-two;
+      beyond_one = subst (λ (n : ℕ). drop n d.new.one ≡ drop n c.args.one.now) long d.ensures.beyond_one;
+      beyond_two = subst (λ (n : ℕ). drop n d.new.two ≡ drop n c.args.two.now) long d.ensures.beyond_two;
     }

@@ -28,6 +28,6 @@ returns g c =
     let behind : Bounds (turned p) x.total most_fed ls w.total w.side = subst (λ (q : Pairs). Bounds q x.total most_fed ls w.total w.side) c.turn.ensures.turned c.probe-behind.ensures.bounds in
     record {
       drawn = drawn_by p ls c.requires.sound c.requires.proper x.total x.side c.probe-alone.ensures.bounds v.total w.total c.left-second.result v.side w.side c.cut_of.result c.halve.new.one c.halve.new.two c.probe-ahead.ensures.bounds behind c.left-second.ensures c.halve.ensures.halves c.cut_of.ensures;
-      beyond-one = c.halve.ensures.beyond-one;
-      beyond-two = c.halve.ensures.beyond-two;
+      beyond_one = c.halve.ensures.beyond_one;
+      beyond_two = c.halve.ensures.beyond_two;
     }

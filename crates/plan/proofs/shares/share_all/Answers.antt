@@ -1,5 +1,5 @@
 use Rattle.std.proofs.Common.{◌≡◌, ◌<◌, ◌≤◌, ◌≢◌, length, get_or, ℤ, pos, ◌+ℤ◌, ◌-ℤ◌, nat_abs, ◌∙◌, arith, w32, to_z, of_z, below_more}
-use Rattle.std.proofs.lemmas.List.{get_or-set_same, get_or-set_other, drop_set_lt}
+use Rattle.std.proofs.lemmas.List.{get_or-set_same, get_or-set_other, drop-set-lt}
 use Rattle.std.proofs.lemmas.Int.{ints}
 use Rattle.flow.specs.Ranges.{most_limit}
 use Rattle.engine.specs.Arcs.{blank}
@@ -36,6 +36,6 @@ loop-i-preserved c =
       below_more _ _
           (λ k q. let ne : k ≢ i = omega arith in (get_or-set_other c.loop-i.one i k _ (pos 0) ne ∙ (c.loop-i.invariant.0 k q).0, get_or-set_other c.loop-i.two i k _ (pos 0) ne ∙ (c.loop-i.invariant.0 k q).1))
           (get_or-set_same c.loop-i.one i _ (pos 0) one ∙ plus f g c.share-first.result.0 hf hg c.share-first.ensures.0, get_or-set_same c.loop-i.two i _ (pos 0) two ∙ minus f g c.share-first.result.1 hf hg c.share-first.ensures.1),
-      drop_set_lt (length c.args.arcs.now) c.loop-i.one i _ h ∙ c.loop-i.invariant.1,
-      drop_set_lt (length c.args.arcs.now) c.loop-i.two i _ h ∙ c.loop-i.invariant.2,
+      drop-set-lt (length c.args.arcs.now) c.loop-i.one i _ h ∙ c.loop-i.invariant.1,
+      drop-set-lt (length c.args.arcs.now) c.loop-i.two i _ h ∙ c.loop-i.invariant.2,
     )
