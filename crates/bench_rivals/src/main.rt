@@ -98,10 +98,10 @@ fn show(rt: &HostRuntime, mode: Mode, number: u32, job: &Job) -> io::Result<()> 
 fn mode_of(rt: &HostRuntime) -> io::Result<Mode> {
     let mut mode = Mode::Totals;
     for word in env::args(rt)? {
-        if word == "times" {
+        if word.as_str() == "times" {
             mode = Mode::Times;
         }
-        if word == "jobs" {
+        if word.as_str() == "jobs" {
             mode = Mode::Jobs;
         }
     }

@@ -5,7 +5,7 @@ use Rattle.book.proofs.Pasts.{then, stays, trial_there}
 use Rattle.book.proofs.book.Book.close.Goals as goal
 
 pub invariant_of-self : goal.invariant_of-self
-invariant_of-self c = (then _ _ (Close (trial_of c.args.receipt)) (closed c.close.result) c.args.self.now.reached c.close.ensures.step, tt)
+invariant_of-self c = record { reached = then _ _ (Close (trial_of c.args.receipt)) (closed c.close.result) c.args.self.now.reached c.close.ensures.step }
 
 pub close-requires : goal.close-requires
 close-requires c = trial_there (seen c.args.self.now.ledger) c.args.self.now.reached

@@ -5,7 +5,7 @@ use Rattle.book.proofs.Pasts.{then, stays}
 use Rattle.book.proofs.book.Book.draw.Goals as goal
 
 pub invariant_of-self : goal.invariant_of-self
-invariant_of-self g c = (then _ _ Draw c.draw.result c.args.self.now.reached c.draw.ensures.step, tt)
+invariant_of-self g c = record { reached = then _ _ Draw c.draw.result c.args.self.now.reached c.draw.ensures.step }
 
 pub draw-requires : goal.draw-requires
 draw-requires g c = orderly (seen c.args.self.now.ledger) c.args.self.now.reached
