@@ -1,7 +1,7 @@
 -- What one reading gives, for any table in which no two lines have the same mark.
 use Rattle.std.proofs.Common.{◌≡◌, ℕ, ◌+◌, ◌≤◌, Bool, true, false, cond, ◌&&◌, eqb, leb, List, [], ◌∷◌, ◌++◌, length, take, drop, Some, None, Ok, Err, Option, Result, refl, ap, ◌∙◌, subst, inl, inr, arith}
 use Rattle.std.specs.List.{ContainsAt as Has, AllByRecursion as All}
-use Rattle.std.proofs.ByRecursion.{all_has, has_append_right}
+use Rattle.std.proofs.ByRecursion.{all-has, has_append_right}
 use Rattle.std.proofs.lemmas.List.{length-append, length-take-le, take-append-drop, take_at}
 use Rattle.std.proofs.lemmas.Bool.{and_parts, eqb-true, leb-true, leb-false, le-leb, cond-true}
 use Rattle.orders.specs.declared.record.RecordFault.{RecordFault}
@@ -29,7 +29,7 @@ module _ {K : Type 0} where
 
   -- A listed line is what its mark finds.
   pub listed_found : (table : List (Entry K)) (e : Entry K) → Apart table → Has table e → lookup table e.first e.second ≡ Some e
-  listed_found table e apart has = all_has (λ x. lookup table x.first x.second ≡ Some x) table e apart has
+  listed_found table e apart has = all-has (λ x. lookup table x.first x.second ≡ Some x) table e apart has
 
   -- A known record at the front is what is read.
   pub known_read : (table : List (Entry K)) (i : Item K) (after : List ℕ) → Apart table → Known table i → read table (bytes i ++ after) ≡ Ok i

@@ -30,7 +30,7 @@ loop-order-preserved g c =
     let so = c.loop-order.invariant in
     let read = c.in-Ok.ensures in
     let carried = subst (λ (at : ℕ). Carried (c.loop-order.orders + 1) at (view c.loop-order.book) c.in-Ok.order c.carry_out.result (view c.carry_out.new.book)) c.place-at.ensures c.carry_out.ensures in
-    (read.file ∙ so.0, told_more _ _ so.1 so.0 (view c.carry_out.new.book) c.carry_out.result c.in-Ok.order read.read read.place carried c.in_ok-put.ensures)
+    (read.file ∙ so.0, told_more _ _ so.1 so.0 (view c.carry_out.new.book) c.carry_out.result c.in-Ok.order read.read read.place carried c.in_ok-put-in-Ok.ensures)
 
 -- The last line was told.
 pub returns : goal.returns
@@ -39,4 +39,4 @@ returns g c =
     let read = c.in-Err.ensures in
     let stays : c.place.result ≡ c.loop-order.reader.place = omega (arith, c.place.ensures, read.place, taken_none _ _ read.read) in
     let line : c.last_line.result ≡ last_line c.loop-order.orders c.loop-order.reader.place c.in-Err.stop = c.last_line.ensures ∙ ap (λ (at : ℕ). last_line c.loop-order.orders at c.in-Err.stop) stays in
-    told_all _ _ so.1 so.0 _ c.in-Err.stop read.read (c.in_ok-put-2.ensures ∙ ap (λ (l : Line). string_bytes c.loop-order.text ++ ended l) line)
+    told_all _ _ so.1 so.0 _ c.in-Err.stop read.read (c.in_ok-put.ensures ∙ ap (λ (l : Line). string_bytes c.loop-order.text ++ ended l) line)
