@@ -1,12 +1,12 @@
 -- What stays and what grows when more is sent.
-use Rattle.std.proofs.Common.{◌≡◌, ℕ, ◌+◌, ◌-◌, ◌<◌, ◌≤◌, Bool, true, false, eqb, List, [], ◌∷◌, length, get_or, take, ℤ, pos, ◌+ℤ◌, ◌-ℤ◌, nat_abs, sym, refl, ap, ◌∙◌, subst, ap₂, arith}
+use Rattle.std.proofs.Common.{◌≡◌, ℕ, ◌+◌, ◌-◌, ◌<◌, ◌≤◌, Bool, true, false, eqb, List, length, get_or, take, ℤ, pos, ◌+ℤ◌, ◌-ℤ◌, nat_abs, sym, refl, ap, ◌∙◌, subst, ap₂, arith}
 use Rattle.flow.specs.declared.taps.Taps.{Taps}
 use Rattle.flow.specs.Ranges.{cabinets}
 use Rattle.flow.specs.Nets.{only, net}
 use Rattle.flow.specs.Answers.{Each, Balanced}
 use Rattle.flow.proofs.Sums.{whole, only_zero}
 use Rattle.flow.proofs.Duality.{leaving_none}
-use Rattle.search.specs.Paths.{OpenPath, SimplePath}
+use Rattle.search.specs.Paths.{SimplePath}
 use Rattle.engine.specs.declared.arc.Arc.{Arc}
 use Rattle.engine.specs.declared.job.Job.{Job}
 use Rattle.engine.specs.Arcs.{tail_of, head_of, limit_of}
@@ -16,7 +16,6 @@ use Rattle.residual.specs.Grounds.{job_lawful}
 use Rattle.residual.specs.Meshes.{residual}
 use Rattle.residual.specs.Raising.{least, Route, Moved}
 use Rattle.residual.proofs.Raising.{route_of, least_most, least_some, least_open}
-use Rattle.augmenting.specs.declared.pairs.Pair.{Pair}
 use Rattle.augmenting.specs.declared.pairs.Which.{Which}
 use Rattle.augmenting.specs.declared.pairs.Which.TheVariants.{First, Second}
 use Rattle.augmenting.specs.Pairs.{feed_of, drain_of, sent}

@@ -1,5 +1,5 @@
 -- Sides that block a feed from a drain, and the full side that four of them make.
-use Rattle.std.proofs.Common.{◌≡◌, ℕ, ◌+◌, ◌-◌, ◌<◌, ◌≤◌, min, Bool, true, false, cond, ◌&&◌, ◌||◌, eqb, ltb, leb, ◌⊎◌, List, length, get_or, replicate, ℤ, pos, ◌+ℤ◌, ◌-ℤ◌, neg_ℤ, sym, refl, ap, ◌∙◌, subst, inl, inr, ⊎_elim, arith}
+use Rattle.std.proofs.Common.{◌≡◌, ℕ, ◌+◌, ◌-◌, ◌<◌, ◌≤◌, min, Bool, true, false, cond, ◌&&◌, ◌||◌, ltb, ◌⊎◌, List, length, get_or, replicate, ℤ, pos, ◌-ℤ◌, neg_ℤ, sym, refl, ap, ◌∙◌, subst, inl, inr, ⊎_elim, arith}
 use Rattle.std.proofs.lemmas.List.{get_or-replicate, get_or_past, length-replicate}
 use Rattle.std.proofs.lemmas.Bool.{true≢false, false≢true, both_ways, le-leb, ltb-true, ltb-false, eq-eqb, ne_eqb, cases_lt, and_parts, and_from, and_left, and_right, or_cases, or_from, or_left, or_right}
 use Rattle.flow.specs.declared.taps.Taps.{Taps}
@@ -9,7 +9,7 @@ use Rattle.flow.specs.Answers.{Placed}
 use Rattle.flow.proofs.Sums.{whole}
 use Rattle.flow.proofs.Steps.{leaving_full}
 use Rattle.flow.proofs.Jobs.{fed_full}
-use Rattle.search.specs.Graphs.{Step, touches, across}
+use Rattle.search.specs.Graphs.{touches, across}
 use Rattle.search.proofs.Meshes.{across_in}
 use Rattle.engine.specs.declared.arc.Arc.{Arc}
 use Rattle.engine.specs.declared.job.Job.{Job}
@@ -18,7 +18,7 @@ use Rattle.engine.specs.Jobs.{links_of}
 use Rattle.engine.specs.Totals.{FeasibleFlow}
 use Rattle.engine.proofs.Arcs.{sound_inside}
 use Rattle.residual.specs.Grounds.{job_lawful}
-use Rattle.residual.specs.Meshes.{mesh_of, ahead, room_on, free, residual}
+use Rattle.residual.specs.Meshes.{mesh_of, ahead, room_on, free}
 use Rattle.augmenting.specs.declared.pairs.Pair.{Pair}
 use Rattle.augmenting.specs.declared.pairs.Which.{Which}
 use Rattle.augmenting.specs.declared.pairs.Which.TheVariants.{First, Second}

@@ -7,7 +7,6 @@ use Rattle.plan.specs.declared.sides.Sides.{Sides}
 use Rattle.plan.specs.declared.flaw.Flaw.{Flaw}
 use Rattle.plan.proofs.Admission.{judged_held}
 use Rattle.mesh.specs.declared.row.Row.{Row}
-use Rattle.mesh.specs.declared.fault.Fault.{Fault}
 use Rattle.mesh.specs.declared.fault.Fault.TheVariants.{Unnamed, Proposal}
 use Rattle.mesh.specs.Faults.{refuse_if}
 use Rattle.mesh.specs.Links.{low_of, high_of, capacity_of}

@@ -1,11 +1,10 @@
 -- The law over every past: a held plan is best, and sums stay near.
-use Rattle.std.proofs.Common.{◌≡◌, ℕ, ◌+◌, ◌-◌, ◌*◌, ◌/◌, ◌%◌, ◌<◌, ◌≤◌, Bool, List, [], ◌∷◌, length, get_or, ℤ, pos, ◌+ℤ◌, Some, None, Ok, Err, Option, Result, sym, refl, ap, ◌∙◌, subst, arith}
+use Rattle.std.proofs.Common.{◌≡◌, ℕ, ◌-◌, Bool, List, [], get_or, Some, None, Ok, Err, Option, Result, sym, refl, ap, ◌∙◌, subst, arith}
 use mathlib.Core.Logic.{∥∥₁_map}
 use Rattle.std.specs.Option.{option_map}
 use Rattle.flow.specs.declared.pairs.Pairs.{Pairs}
 use Rattle.flow.specs.Nearness.{Near}
 use Rattle.flow.specs.Nets.{Inside, members, side_slots}
-use Rattle.flow.specs.Plans.{Proper}
 use Rattle.flow.specs.Ranges.{cabinets}
 use Rattle.flow.proofs.Changing.{near_same, near_then, near_wide, slots_added, slots_resized, slots_dropped, sums_near}
 use Rattle.flow.proofs.Duality.{held_best}
@@ -20,7 +19,7 @@ use Rattle.mesh.specs.Links.{between, blank, low_of, high_of, capacity_of}
 use Rattle.book.specs.declared.trial.Trial.{Trial}
 use Rattle.book.specs.Plans.{Plan, HeldPlan, DrawnPlan, flaw_of}
 use Rattle.book.specs.Ledgers.{Orderly}
-use Rattle.book.specs.History.{State, state, opened, Call, Step, Run, Past, added, taken, counted, resized, slots_of, admission}
+use Rattle.book.specs.History.{State, state, Call, Step, Run, Past, added, taken, counted, resized, slots_of, admission}
 use Rattle.book.specs.History.Call.{Add, Resize, Drop, Name, Begin, Close, Draw, Admit}
 use Rattle.book.specs.History.Run.{still, more}
 use Rattle.book.specs.Books.{Sound, AllRuled}

@@ -1,5 +1,5 @@
 -- The loop that looks for a link between two cabinets.
-use Rattle.std.proofs.Common.{◌≡◌, ℕ, ◌+◌, ◌<◌, true, false, ◌&&◌, ◌||◌, eqb, List, length, get_or, drop, ◌∙◌, add-one, drop-cons, eq-eqb, ne_eqb}
+use Rattle.std.proofs.Common.{◌≡◌, ℕ, ◌+◌, ◌<◌, true, ◌&&◌, ◌||◌, eqb, List, length, get_or, drop, ◌∙◌, add-one, drop-cons, eq-eqb, ne_eqb}
 use Rattle.mesh.specs.declared.row.Row.{Row}
 use Rattle.book.specs.History.{linked}
 use Rattle.mesh.specs.Links.{blank}

@@ -1,5 +1,5 @@
 -- The state that a book shows, and what holds of it in every past.
-use Rattle.std.specs.Prelude.{◌≡◌, ℕ, ◌%◌, ◌<◌, ◌≤◌, List, length, get_or, Some, Option, ◌≢◌, slice_index_or}
+use Rattle.std.specs.Prelude.{◌≡◌, ℕ, ◌%◌, ◌<◌, ◌≤◌, List, length, get_or, Some, ◌≢◌, slice_index_or}
 use Rattle.flow.specs.declared.pairs.Pairs.{Pairs}
 use Rattle.flow.specs.Plans.{Proper}
 use Rattle.flow.specs.Ranges.{cabinets, most_links, most_slots}

@@ -1,5 +1,5 @@
 -- Links by their places in a list.
-use Rattle.std.proofs.Common.{ℕ, List}
+use Rattle.std.proofs.Common.{List}
 use Rattle.std.proofs.ByRecursion.{All-from_get_or, All-get_or, all_kept_by}
 use Rattle.flow.specs.Ranges.{cabinets}
 use Rattle.flow.specs.Nets.{Inside}

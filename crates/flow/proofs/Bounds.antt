@@ -1,5 +1,5 @@
 -- What crosses a side is at most its slots, link by link.
-use Rattle.std.proofs.Common.{◌≡◌, ℕ, zero, suc, ◌+◌, ◌*◌, ◌<◌, ◌≤◌, Bool, true, false, cond, List, [], ◌∷◌, length, get_or, ℤ, pos, ◌+ℤ◌, ◌-ℤ◌, nat_abs, ◌≤ℤ◌, sym, refl, ap, ◌∙◌, subst, ap₂, mul-zero, mul-add, arith}
+use Rattle.std.proofs.Common.{◌≡◌, ℕ, suc, ◌+◌, ◌*◌, ◌≤◌, Bool, true, false, cond, List, [], ◌∷◌, get_or, ℤ, pos, ◌+ℤ◌, ◌-ℤ◌, nat_abs, ◌≤ℤ◌, sym, refl, ◌∙◌, subst, ap₂, mul-zero, mul-add, arith}
 use Rattle.flow.specs.Nets.{only, xor, here, after, leaving, crosses, side_slots}
 use Rattle.flow.specs.Plans.{Shared}
 use Rattle.flow.specs.Answers.{Within}

@@ -1,12 +1,12 @@
 -- A drawn plan is held with its two sides, whatever the engines answered, and its halves are the greatest.
-use Rattle.std.proofs.Common.{◌≡◌, ℕ, ◌+◌, ◌-◌, ◌*◌, ◌<◌, ◌≤◌, min, Bool, true, false, cond, ◌⊎◌, List, length, ℤ, pos, ◌+ℤ◌, ◌≤ℤ◌, sym, refl, ap, ◌∙◌, subst, ap₂, inl, inr, arith}
-use Rattle.std.proofs.lemmas.Bool.{cases_eq, true≢false, false≢true}
+use Rattle.std.proofs.Common.{◌≡◌, ℕ, ◌+◌, ◌-◌, ◌*◌, ◌<◌, ◌≤◌, min, Bool, true, false, ◌⊎◌, List, ℤ, pos, ◌+ℤ◌, ◌≤ℤ◌, sym, refl, ◌∙◌, subst, inl, inr, arith}
+use Rattle.std.proofs.lemmas.Bool.{cases_eq, false≢true}
 use Rattle.flow.specs.declared.pairs.Pairs.{Pairs}
 use Rattle.flow.specs.Ranges.{cabinets, most_fed}
 use Rattle.flow.specs.Nets.{xor, total, side_slots, Inside}
-use Rattle.flow.specs.Plans.{Proper, FirstSide, SumSide, Feasible, Held, total_one, total_two, sum_of}
-use Rattle.flow.specs.Answers.{Answer, Within, fed}
-use Rattle.flow.specs.Drawings.{Doubled, Halved, Carries, turned, made_side, SameSide, Drawn}
+use Rattle.flow.specs.Plans.{Proper, SumSide, Feasible, Held, total_one, total_two}
+use Rattle.flow.specs.Answers.{Within, fed}
+use Rattle.flow.specs.Drawings.{Doubled, Carries, turned, made_side, SameSide, Drawn}
 use Rattle.flow.specs.Laws.{Greatest}
 use Rattle.flow.proofs.Sums.{whole}
 use Rattle.flow.proofs.Duality.{sum_bound}

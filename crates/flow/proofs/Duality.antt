@@ -1,10 +1,10 @@
 -- Weak duality: a first side's slots bound total 1, a sum side's the sum, and in fractions q times them; so a held plan is best.
-use Rattle.std.proofs.Common.{◌≡◌, ℕ, zero, suc, ◌+◌, ◌*◌, ◌<◌, ◌≤◌, Bool, true, false, cond, eqb, List, [], ◌∷◌, length, get_or, ℤ, pos, ◌+ℤ◌, ◌-ℤ◌, ◌*ℤ◌, neg_ℤ, nat_abs, ◌≤ℤ◌, sym, refl, ap, ◌∙◌, subst, ap₂, one-mul, arith}
+use Rattle.std.proofs.Common.{◌≡◌, ℕ, suc, ◌*◌, Bool, true, false, eqb, List, [], ◌∷◌, ℤ, pos, ◌+ℤ◌, ◌-ℤ◌, ◌*ℤ◌, neg_ℤ, nat_abs, ◌≤ℤ◌, sym, refl, ap, ◌∙◌, subst, arith}
 use lib.IntN.{pos-*ℤ-pos}
 use Rattle.std.proofs.lemmas.Bool.{false≢true}
 use Rattle.flow.specs.declared.pairs.Pairs.{Pairs}
 use Rattle.flow.specs.Nets.{only, xor, here, after, leaving, net, side_slots, Inside}
-use Rattle.flow.specs.Plans.{Proper, FirstSide, SumSide, Shared, Absent, total_one, total_two, sum_of, Feasible, Fractional, Held, Best}
+use Rattle.flow.specs.Plans.{Proper, FirstSide, SumSide, Shared, Absent, total_one, sum_of, Feasible, Fractional, Held, Best}
 use Rattle.flow.proofs.Sums.{whole}
 use Rattle.flow.proofs.Counting.{parted}
 use Rattle.flow.proofs.Bounds.{after_at, bound_one, bound_plus, bound_minus, slots_scaled, shared_within}

@@ -1,9 +1,9 @@
 -- Halving: two flows within half the slots, with A and B and with A and -B, make shares with the totals 2A and 2B.
-use Rattle.std.proofs.Common.{◌≡◌, ℕ, zero, suc, ◌+◌, ◌*◌, ◌<◌, ◌≤◌, max, Bool, true, false, eqb, List, [], ◌∷◌, length, get_or, ℤ, pos, negsuc, ◌+ℤ◌, ◌-ℤ◌, nat_abs, sym, refl, ap, ◌∙◌, ap₂, arith}
+use Rattle.std.proofs.Common.{◌≡◌, ℕ, suc, ◌+◌, ◌*◌, ◌<◌, ◌≤◌, max, Bool, true, false, eqb, List, [], ◌∷◌, length, get_or, ℤ, pos, negsuc, ◌+ℤ◌, ◌-ℤ◌, nat_abs, sym, refl, ◌∙◌, ap₂, arith}
 use Rattle.std.proofs.lemmas.Bool.{eq-eqb, ne_eqb}
 use Rattle.flow.specs.declared.pairs.Pairs.{Pairs}
 use Rattle.flow.specs.Nets.{only, here, after, leaving, net}
-use Rattle.flow.specs.Plans.{Proper, Shared, Conserved, Feasible, total_one, total_two}
+use Rattle.flow.specs.Plans.{Proper, Shared, Feasible, total_one, total_two}
 use Rattle.flow.specs.Answers.{Within}
 use Rattle.flow.specs.Drawings.{Doubled, Halved, Carries, turned}
 use Rattle.flow.proofs.Sums.{whole, only_true, only_false}

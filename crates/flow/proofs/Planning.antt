@@ -1,10 +1,10 @@
 -- What the jobs of a drawing yield: with `big` and 0; with A and `big`, both ways round; with A and B, both ways round.
-use Rattle.std.proofs.Common.{◌≡◌, ℕ, ◌+◌, ◌*◌, ◌<◌, ◌≤◌, Bool, true, false, cond, not, eqb, List, ℤ, pos, ◌+ℤ◌, ◌-ℤ◌, sym, refl, ap, ◌∙◌, subst, ap₂, le_refl, arith}
+use Rattle.std.proofs.Common.{◌≡◌, ℕ, ◌+◌, ◌<◌, ◌≤◌, Bool, true, false, cond, not, eqb, List, ℤ, pos, ◌+ℤ◌, ◌-ℤ◌, sym, refl, ap, ◌∙◌, subst, ap₂, le_refl, arith}
 use Rattle.std.proofs.lemmas.Bool.{true≢false, false≢true, eq-eqb, ne_eqb, cond-true, cond-false}
 use Rattle.flow.specs.declared.pairs.Pairs.{Pairs}
-use Rattle.flow.specs.Nets.{only, xor, total, net, side_slots, Inside}
+use Rattle.flow.specs.Nets.{only, xor, total, side_slots, Inside}
 use Rattle.flow.specs.Plans.{Proper, SumSide}
-use Rattle.flow.specs.Answers.{Answer, Placed, Within, Solves, fed, cost}
+use Rattle.flow.specs.Answers.{Answer, Placed, Within, fed, cost}
 use Rattle.flow.specs.Drawings.{turned, ends_of, both_of, Carries, Answered, mix, made_side}
 use Rattle.flow.proofs.Cuts.{xor_swap, xor_turned, slots_xor, slots_turned, slots_within}
 use Rattle.flow.proofs.Jobs.{fed_within, fed_drained}

@@ -1,5 +1,5 @@
 -- The mesh of a list of pairs of ends.
-use Rattle.std.specs.Prelude.{◌≡◌, ℕ, ◌<◌, List, ◌≢◌, slice_index_or}
+use Rattle.std.specs.Prelude.{ℕ, ◌<◌, List, ◌≢◌, slice_index_or}
 use Rattle.search.specs.Graphs.{Mesh, mesh_by}
 use Rattle.search.specs.declared.links.Ends.{Ends}
 

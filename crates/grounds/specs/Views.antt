@@ -1,9 +1,8 @@
 -- The graphs that the grounds are.
-use Rattle.std.specs.Prelude.{ℕ, Bool, List, ◌==◌, nat_lt, slice_index, slice_index_or}
+use Rattle.std.specs.Prelude.{ℕ, List, ◌==◌, nat_lt, slice_index, slice_index_or}
 use Rattle.search.specs.Graphs.{Graph, Lawful}
 use Rattle.grounds.specs.Nets.{none, mesh_at}
 use Rattle.grounds.specs.declared.net.Net.{Net}
-use Rattle.search.specs.declared.links.Ends.{Ends}
 
 -- The mesh of a net keeps the ranges.
 pub lawful_net : (n : Net) → Lawful (mesh_at n.links.now)

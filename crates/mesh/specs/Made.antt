@@ -1,5 +1,5 @@
 -- What making a link from a row answers.
-use Rattle.std.specs.Prelude.{◌≡◌, ℕ, Some, None, Ok, Err, Option, Result, nat_le, nat_lt}
+use Rattle.std.specs.Prelude.{◌≡◌, Some, None, Ok, Err, Option, Result, nat_le, nat_lt}
 use Rattle.mesh.specs.declared.row.Row.{Row}
 use Rattle.mesh.specs.declared.link.Link.{Link}
 use Rattle.mesh.specs.declared.fault.Fault.{Fault}

@@ -1,11 +1,10 @@
 -- The whole table passes the test: computed once, over all its rows.
-use Rattle.std.proofs.Common.{◌≡◌, ℕ, ◌<◌, Bool, true, List, [], ◌∷◌, length, get_or, refl, subst, lit<}
+use Rattle.std.proofs.Common.{◌≡◌, ℕ, ◌<◌, Bool, true, List, [], ◌∷◌, get_or, refl, subst, lit<}
 use Rattle.flow.specs.Tests.{all_below, is_shared, is_conserved}
 use Rattle.plan.specs.Judging.{lowest_failing}
 use Rattle.book.specs.History.{linked}
 use Rattle.meshes.specs.declared.worked.Worked.{Worked}
 use Rattle.meshes.specs.declared.worked.Worked.TheVariants.{NoLinks, SameWay, HeadOn, HeadOnChain, OneSource, Trunk, TrunkTurned, Ring, RingResized, TrunkInTrial, HeadOnEven, HeadOnOver}
-use Rattle.meshes.specs.Examples.{Shown}
 use Rattle.meshes.specs.Table.{example, WholeTable}
 use Rattle.meshes.proofs.Testing.{every, every_at, passes, shown}
 

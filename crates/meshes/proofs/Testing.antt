@@ -3,7 +3,7 @@ use Rattle.std.proofs.Common.{◌≡◌, ℕ, zero, suc, ◌<◌, Bool, true, fa
 use Rattle.std.proofs.lemmas.Bool.{and_parts, false≢true, ltb-true, eqb-true, eqb-false, not-true}
 use Rattle.flow.specs.declared.pairs.Pairs.{Pairs}
 use Rattle.flow.specs.Nets.{members, Inside}
-use Rattle.flow.specs.Plans.{Proper, Held, total_one, total_two}
+use Rattle.flow.specs.Plans.{Proper, total_one, total_two}
 use Rattle.flow.specs.Ranges.{cabinets}
 use Rattle.flow.specs.Tests.{equal, is_held}
 use Rattle.flow.proofs.Deciding.{equal_decides, held_decides}
@@ -13,7 +13,7 @@ use Rattle.mesh.specs.declared.fault.Fault.{Fault}
 use Rattle.mesh.specs.Faults.{number, place}
 use Rattle.mesh.specs.Links.{low_of, high_of, capacity_of}
 use Rattle.sheet.specs.declared.answers.Totals.{Totals}
-use Rattle.book.specs.History.{State, state, opened, refusal}
+use Rattle.book.specs.History.{State, opened, refusal}
 use Rattle.book.specs.History.Call.{Admit}
 use Rattle.book.specs.Plans.{Plan, HeldPlan, plan_sum}
 use Rattle.meshes.specs.declared.outcome.Outcome.{Outcome}

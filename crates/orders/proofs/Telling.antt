@@ -1,7 +1,7 @@
 -- How the lines of a run follow one another.
 use Rattle.std.proofs.Common.{◌≡◌, ℕ, ◌+◌, ◌*◌, ◌≤◌, List, [], ◌∷◌, ◌++◌, length, drop, Ok, Err, Result, sym, refl, ap, ◌∙◌, subst, arith}
 use Rattle.std.specs.List.{flat_map}
-use Rattle.std.proofs.lemmas.List.{flat_map_more, length_push, length-append}
+use Rattle.std.proofs.lemmas.List.{flat_map_more, length_push}
 use Rattle.book.specs.History.{State}
 use Rattle.orders.specs.declared.kind.Kind.{Kind}
 use Rattle.orders.specs.declared.line.Line.{Line}
@@ -9,7 +9,7 @@ use Rattle.orders.specs.declared.order.Order.{Order}
 use Rattle.orders.specs.declared.record.Stop.{Stop}
 use Rattle.orders.specs.Lines.{ended}
 use Rattle.orders.specs.Meanings.{order, ordered}
-use Rattle.orders.specs.Records.{Item, bytes, read, taken, orders, ReadAs, ReadUpTo}
+use Rattle.orders.specs.Records.{Item, bytes, read, taken, orders, ReadUpTo}
 use Rattle.orders.specs.Runs.{Carried, Tells, Ran, last_line}
 use Rattle.orders.specs.Runs.Tells.{none, next}
 use Rattle.orders.proofs.ReadOrders.{ordered_item, ordered_stop}

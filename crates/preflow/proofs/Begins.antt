@@ -1,24 +1,22 @@
 -- The preflow to start from has valid heights, and the queue lines up with it.
-use Rattle.std.proofs.Common.{◌≡◌, ℕ, zero, suc, ◌+◌, ◌-◌, ◌^◌, ◌<◌, ◌≤◌, Bool, true, false, cond, eqb, ltb, List, [], ◌∷◌, ◌++◌, length, get_or, set, replicate, ℤ, pos, ◌+ℤ◌, ◌-ℤ◌, nat_abs, sum, sym, refl, ap, ◌∙◌, subst, ⊎_elim, arith}
-use Rattle.std.proofs.lemmas.List.{get_or_past, get_or-set_same, get_or-set_other, get_or-replicate, length-set, length-take}
+use Rattle.std.proofs.Common.{◌≡◌, ℕ, ◌+◌, ◌^◌, ◌<◌, ◌≤◌, Bool, true, false, cond, eqb, ltb, List, [], ◌∷◌, ◌++◌, length, get_or, replicate, ℤ, pos, ◌+ℤ◌, ◌-ℤ◌, nat_abs, sum, sym, ap, ◌∙◌, subst, ⊎_elim, arith}
+use Rattle.std.proofs.lemmas.List.{get_or_past, get_or-replicate, length-set, length-take}
 use Rattle.std.proofs.lemmas.Bool.{cases_eq, cases_lt, eq-eqb, ne_eqb, lt-ltb, le-ltb, cond-true, cond-false}
 use Rattle.flow.specs.declared.taps.Taps.{Taps}
-use Rattle.flow.specs.Ranges.{cabinets, most_fed}
-use Rattle.flow.specs.Nets.{only, leaving, net}
-use Rattle.flow.specs.Answers.{gain, Placed}
+use Rattle.flow.specs.Ranges.{cabinets}
+use Rattle.flow.specs.Nets.{only, net}
+use Rattle.flow.specs.Answers.{Placed}
 use Rattle.flow.proofs.Sums.{whole, only_zero}
 use Rattle.flow.proofs.Duality.{leaving_none}
-use Rattle.search.specs.Graphs.{across}
 use Rattle.engine.specs.declared.arc.Arc.{Arc}
 use Rattle.engine.specs.declared.job.Job.{Job}
 use Rattle.engine.specs.Jobs.{links_of}
-use Rattle.engine.specs.Arcs.{tail_of, head_of, limit_of, Fits, Limited}
-use Rattle.residual.specs.Meshes.{mesh_of}
+use Rattle.engine.specs.Arcs.{tail_of, head_of, Fits, Limited}
 use Rattle.preflow.specs.Heights.{high, Valid}
 use Rattle.preflow.specs.Sends.{given}
 use Rattle.preflow.specs.Starts.{begun, filled, Still, Lined, Distances}
 use Rattle.preflow.specs.Waits.{times, Queued}
-use Rattle.preflow.specs.States.{Excess, Labeled}
+use Rattle.preflow.specs.States.{Labeled}
 use Rattle.preflow.proofs.Parts.{given_at, given_sum}
 use Rattle.preflow.proofs.Queues.{times_push, some, none}
 use Rattle.preflow.proofs.Spreads.{distances_valid}

@@ -1,19 +1,19 @@
 -- A level that holds no cabinet is left downward by no open step: so a cabinet with an excess does not stand above one that is above the outer source, and at the end the cabinets above one are a side that is full.
-use Rattle.std.proofs.Common.{◌≡◌, ℕ, ◌+◌, ◌<◌, ◌≤◌, Bool, true, false, cond, eqb, ltb, leb, ◌⊎◌, List, length, get_or, ℤ, pos, ◌+ℤ◌, ◌-ℤ◌, neg_ℤ, nat_abs, ◌≤ℤ◌, sym, refl, ap, ◌∙◌, subst, inl, inr, ⊎_elim, arith}
+use Rattle.std.proofs.Common.{◌≡◌, ℕ, ◌+◌, ◌<◌, ◌≤◌, Bool, true, false, cond, eqb, ltb, List, length, get_or, ℤ, pos, ◌-ℤ◌, neg_ℤ, sym, refl, ap, ◌∙◌, ⊎_elim, arith}
 use Rattle.std.proofs.lemmas.Bool.{ltb-true, ltb-false, lt-ltb, le-ltb, le-leb, eq-eqb, ne_eqb, or_left, or_right, cases_eq, cases_lt}
 use Rattle.flow.specs.declared.taps.Taps.{Taps}
 use Rattle.flow.specs.Ranges.{cabinets}
-use Rattle.flow.specs.Nets.{only, xor, sum_below, leaving, net, crosses, side_slots}
-use Rattle.flow.specs.Answers.{Each, Balanced, gain, cost}
+use Rattle.flow.specs.Nets.{only, xor, leaving, crosses, side_slots}
+use Rattle.flow.specs.Answers.{Each, Balanced, cost}
 use Rattle.flow.proofs.Sums.{whole, only_false, only_zero}
 use Rattle.flow.proofs.Steps.{leaving_full}
 use Rattle.flow.proofs.Jobs.{fed_full}
-use Rattle.search.specs.Graphs.{Step, touches, across}
+use Rattle.search.specs.Graphs.{touches, across}
 use Rattle.search.proofs.Meshes.{across_first, across_second}
 use Rattle.engine.specs.declared.arc.Arc.{Arc}
 use Rattle.engine.specs.Arcs.{blank, tail_of, head_of, limit_of, Fits}
 use Rattle.engine.proofs.Arcs.{sound_inside}
-use Rattle.residual.specs.Meshes.{mesh_of, ahead, toward, room_on, free, residual}
+use Rattle.residual.specs.Meshes.{mesh_of, room_on, free}
 use Rattle.preflow.specs.Heights.{high, Empty, Valid, ValidFeed, ValidDrain}
 use Rattle.preflow.specs.States.{Excess}
 use Rattle.preflow.proofs.Levels.{level, row_of_levels, level_has}

@@ -1,5 +1,5 @@
 -- Heights stay valid under a push along an admissible way, under a lift to just above the lowest open way, and where all above a gap are raised.
-use Rattle.std.proofs.Common.{◌≡◌, ℕ, ◌+◌, ◌<◌, ◌≤◌, max, true, cond, eqb, ltb, leb, ◌⊎◌, List, length, get_or, set, ℤ, pos, sym, refl, ap, ◌∙◌, subst, inl, inr, ⊎_elim, arith}
+use Rattle.std.proofs.Common.{◌≡◌, ℕ, ◌+◌, ◌<◌, ◌≤◌, max, true, ltb, leb, List, length, get_or, set, ℤ, pos, sym, ap, ◌∙◌, subst, inl, inr, ⊎_elim, arith}
 use Rattle.std.proofs.lemmas.List.{get_or-set_same, get_or-set_other}
 use Rattle.std.proofs.lemmas.Bool.{cond_both, ltb-true, ltb-false, cases_eq}
 use Rattle.flow.specs.declared.taps.Taps.{Taps}
@@ -8,10 +8,10 @@ use Rattle.flow.specs.Answers.{Placed}
 use Rattle.search.specs.Graphs.{Step, touches, across}
 use Rattle.search.proofs.Meshes.{across_first, across_second, touch_cases}
 use Rattle.engine.specs.declared.arc.Arc.{Arc}
-use Rattle.engine.specs.Arcs.{blank, AllSound, Fits}
-use Rattle.residual.specs.Meshes.{mesh_of, ahead, room_on, free, residual}
+use Rattle.engine.specs.Arcs.{blank, AllSound}
+use Rattle.residual.specs.Meshes.{mesh_of, ahead, room_on, residual}
 use Rattle.preflow.specs.Heights.{high, Empty, over_top, Raised, Valid, ValidFeed, ValidDrain}
-use Rattle.preflow.specs.Ways.{Bounds, Least}
+use Rattle.preflow.specs.Ways.{Least}
 
 -- a step leads from one cabinet to another
 module _ (ls : List Arc) (sound : AllSound ls) (u l : ℕ) (h : l < length ls) (t : touches (mesh_of ls) u l ≡ true) where

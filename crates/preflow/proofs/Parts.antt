@@ -1,7 +1,7 @@
 -- What taking a part of a cabinet's excess, or giving one to it, does to the excess, to its sum and to the measure.
-use Rattle.std.proofs.Common.{◌≡◌, ℕ, zero, suc, ◌+◌, ◌-◌, ◌*◌, ◌<◌, ◌≤◌, eqb, List, [], ◌∷◌, length, get_or, set, ℤ, pos, ◌+ℤ◌, sum, sym, refl, ap, ◌∙◌, subst, ⊎_elim, add-mul, mul-le-mul_left, mul-one, mul-add, arith}
+use Rattle.std.proofs.Common.{◌≡◌, ℕ, zero, suc, ◌+◌, ◌-◌, ◌*◌, ◌<◌, ◌≤◌, eqb, List, [], ◌∷◌, length, get_or, set, pos, ◌+ℤ◌, sum, sym, ap, ◌∙◌, subst, ⊎_elim, add-mul, mul-le-mul_left, mul-one, mul-add, arith}
 use Rattle.std.specs.List.{AllByRecursion as All}
-use Rattle.std.proofs.lemmas.List.{get_or-set_same, get_or-set_other, length-set}
+use Rattle.std.proofs.lemmas.List.{get_or-set_same, get_or-set_other}
 use Rattle.std.proofs.lemmas.List.Sums.{sum_by-set, sum_by-cons}
 use Rattle.std.proofs.lemmas.Bool.{cases_eq, eq-eqb, ne_eqb}
 use Rattle.flow.specs.Nets.{only}

@@ -1,5 +1,5 @@
 -- A push along an admissible way keeps a preflow with valid heights, and takes from the measure.
-use Rattle.std.proofs.Common.{◌≡◌, ℕ, ◌+◌, ◌-◌, ◌*◌, ◌^◌, ◌<◌, ◌≤◌, Bool, true, false, eqb, List, [], ◌∷◌, length, get_or, drop, set, ℤ, pos, ◌+ℤ◌, ◌-ℤ◌, nat_abs, Some, None, sum, Option, sym, refl, ap, ◌∙◌, subst, arith}
+use Rattle.std.proofs.Common.{◌≡◌, ℕ, ◌+◌, ◌-◌, ◌^◌, ◌<◌, ◌≤◌, Bool, true, false, eqb, List, [], length, get_or, drop, ℤ, pos, ◌+ℤ◌, ◌-ℤ◌, nat_abs, Some, sum, sym, refl, ap, ◌∙◌, arith}
 use Rattle.std.proofs.lemmas.List.{length-set}
 use Rattle.std.proofs.lemmas.List.Sums.{get_or-le-sum_by}
 use Rattle.std.proofs.lemmas.Bool.{leb-true, le-leb}
@@ -8,7 +8,7 @@ use Rattle.flow.specs.Ranges.{cabinets, most_limit}
 use Rattle.flow.specs.Nets.{only, net}
 use Rattle.flow.specs.Answers.{Each, gain}
 use Rattle.flow.proofs.Sums.{whole}
-use Rattle.search.specs.Graphs.{Step, touches, across}
+use Rattle.search.specs.Graphs.{Step, across}
 use Rattle.engine.specs.declared.arc.Arc.{Arc}
 use Rattle.engine.specs.Arcs.{blank, tail_of, head_of}
 use Rattle.residual.specs.Meshes.{mesh_of, ahead, toward, free, residual}
@@ -16,9 +16,9 @@ use Rattle.residual.specs.Raising.{Moved}
 use Rattle.residual.proofs.Raising.{onward_more, raise_fits}
 use Rattle.preflow.specs.declared.way.Way.{Way}
 use Rattle.preflow.specs.declared.way.Way.TheVariants.{Over, Drain1, Drain2, Feed1, Feed2, Shut}
-use Rattle.preflow.specs.Heights.{high, Valid, ValidFeed, ValidDrain}
+use Rattle.preflow.specs.Heights.{high, Valid}
 use Rattle.preflow.specs.Ways.{Leads}
-use Rattle.preflow.specs.Sends.{carried, sent_flow, sent_amounts, reached, taken, given, moved, Sendable}
+use Rattle.preflow.specs.Sends.{carried, sent_flow, sent_amounts, reached, taken, moved, Sendable}
 use Rattle.preflow.specs.States.{Labeled, dot}
 use Rattle.preflow.proofs.Parts.{given_at, given_sum, given_dot, taken_at, taken_sum, taken_dot, times_more}
 use Rattle.preflow.proofs.Labels.{step_ends, pushed_over}

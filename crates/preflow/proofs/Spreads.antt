@@ -1,9 +1,9 @@
 -- The backward search from the drains, level by level, before anything flows.
-use Rattle.std.proofs.Common.{◌≡◌, ℕ, ◌+◌, ◌<◌, ◌≤◌, Bool, true, false, eqb, leb, ◌⊎◌, List, [], ◌∷◌, length, get_or, take, replicate, ℤ, pos, sym, refl, ap, ◌∙◌, subst, inl, inr, ⊎_elim, arith}
+use Rattle.std.proofs.Common.{◌≡◌, ℕ, ◌+◌, ◌<◌, ◌≤◌, Bool, true, false, eqb, leb, List, [], length, get_or, take, replicate, ℤ, pos, sym, refl, ap, ◌∙◌, subst, inl, inr, ⊎_elim, arith}
 use Rattle.std.specs.List.{AllByRecursion as All}
 use Rattle.std.proofs.lemmas.List.{get_or-replicate}
 use Rattle.std.proofs.ByRecursion.{All-more, All-weaker}
-use Rattle.std.proofs.lemmas.Bool.{leb-true, eq-eqb, or_left, or_right, cases_eq, cases_lt}
+use Rattle.std.proofs.lemmas.Bool.{leb-true, eq-eqb, or_left, or_right, cases_eq}
 use Rattle.flow.specs.declared.taps.Taps.{Taps}
 use Rattle.flow.specs.Ranges.{cabinets}
 use Rattle.flow.proofs.Sums.{whole}
@@ -12,7 +12,7 @@ use Rattle.search.proofs.Meshes.{across_first, across_second, touch_cases, incid
 use Rattle.engine.specs.declared.arc.Arc.{Arc}
 use Rattle.engine.specs.Arcs.{blank, AllSound}
 use Rattle.residual.specs.Meshes.{mesh_of, ahead, room_on, free, residual}
-use Rattle.preflow.specs.Heights.{high, Empty, Valid}
+use Rattle.preflow.specs.Heights.{high, Valid}
 use Rattle.preflow.specs.Starts.{begun, Still, Into, Lowered, Settled, Distances}
 use Rattle.preflow.proofs.Labels.{step_ends}
 

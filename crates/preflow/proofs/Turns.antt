@@ -1,11 +1,10 @@
 -- One turn: what it needs and what it keeps.
-use Rattle.std.proofs.Common.{◌≡◌, ℕ, ◌+◌, ◌<◌, ◌≤◌, min, leb, List, [], ◌∷◌, ◌++◌, length, get_or, drop, ℤ, IfSome, Some, None, Option, sym, refl, ap, ◌∙◌, subst, arith}
+use Rattle.std.proofs.Common.{◌≡◌, ℕ, ◌<◌, ◌≤◌, min, List, ◌∷◌, length, get_or, drop, ℤ, IfSome, Some, None, Option, sym, ap, subst, arith}
 use Rattle.std.proofs.lemmas.Bool.{leb-true, le-leb}
 use Rattle.flow.specs.declared.taps.Taps.{Taps}
 use Rattle.flow.specs.Ranges.{cabinets}
-use Rattle.search.specs.Graphs.{across}
 use Rattle.engine.specs.declared.arc.Arc.{Arc}
-use Rattle.residual.specs.Meshes.{mesh_of, free}
+use Rattle.residual.specs.Meshes.{free}
 use Rattle.preflow.specs.declared.way.Best.{Best}
 use Rattle.preflow.specs.declared.way.Way.{Way}
 use Rattle.preflow.specs.declared.way.Way.TheVariants.{Over, Drain1, Drain2, Feed1, Feed2, Shut}

@@ -1,5 +1,5 @@
 -- Open ways out of a cabinet.
-use Rattle.std.specs.Prelude.{◌≡◌, ℕ, ◌+◌, ◌<◌, ◌≤◌, Bool, cond, List, ℤ, nat_lt}
+use Rattle.std.specs.Prelude.{◌≡◌, ℕ, ◌+◌, ◌<◌, ◌≤◌, cond, List, ℤ, nat_lt}
 use Rattle.flow.specs.declared.taps.Taps.{Taps}
 use Rattle.search.specs.Graphs.{Step, across}
 use Rattle.engine.specs.declared.arc.Arc.{Arc}

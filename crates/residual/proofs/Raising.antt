@@ -5,12 +5,10 @@ use Rattle.std.proofs.lemmas.List.{get_or-set_other, drop-set-lt, drop_more, dro
 use Rattle.std.proofs.lemmas.Bool.{eqb-true, eqb-false, leb-true, le-leb}
 use Rattle.flow.specs.Ranges.{most_limit}
 use Rattle.flow.specs.Nets.{only, net}
-use Rattle.flow.specs.Answers.{Within}
 use Rattle.flow.proofs.Sums.{whole}
 use Rattle.flow.proofs.Steps.{leaving_set, within_set}
 use Rattle.search.specs.Graphs.{Mesh, Graph, Lawful, Step, across}
-use Rattle.search.specs.Laws.{EndOf}
-use Rattle.search.specs.Paths.{OpenPath, destination, Distinct, SimplePath}
+use Rattle.search.specs.Paths.{OpenPath, destination, SimplePath}
 use Rattle.search.proofs.Meshes.{touch_cases}
 use Rattle.search.proofs.Once.{links_once}
 use Rattle.engine.specs.declared.arc.Arc.{Arc}

@@ -1,6 +1,5 @@
 -- The ground that a `Residual` is.
-use Rattle.std.specs.Prelude.{◌≡◌, ℕ, ◌<◌, ◌≤◌, length, take}
-use Rattle.std.proofs.Common.{subst, arith}
+use Rattle.std.proofs.Common.{arith}
 use Rattle.search.specs.Graphs.{Graph, Lawful}
 use Rattle.engine.specs.Arcs.{blank}
 use Rattle.engine.specs.Jobs.{links_of}

@@ -1,8 +1,7 @@
 -- Jobs of a shape.
-use Rattle.std.specs.Prelude.{◌≡◌, ℕ, ◌<◌, ◌≤◌, length, get_or, Some, None, Option}
+use Rattle.std.specs.Prelude.{◌≡◌, ◌≤◌, length, Some, None, Option}
 use Rattle.flow.specs.Ranges.{cabinets, most_links, most_limit, most_fed}
 use Rattle.engine.specs.declared.job.Job.{Job}
-use Rattle.engine.specs.Arcs.{blank}
 use Rattle.engine.specs.Jobs.{links_of}
 use Rattle.samples.specs.declared.jobs.Shape.{Shape}
 

@@ -1,9 +1,9 @@
 -- The ends of a link, and the links at a cabinet.
-use Rattle.std.proofs.Common.{◌≡◌, ℕ, zero, suc, ◌+◌, ◌<◌, ◌≤◌, Bool, true, false, cond, eqb, ◌⊎◌, List, [], ◌∷◌, length, get_or, filter, sym, refl, ap, ◌∙◌, subst, inl, inr, arith}
+use Rattle.std.proofs.Common.{◌≡◌, ℕ, zero, suc, ◌+◌, ◌<◌, ◌≤◌, Bool, true, false, cond, eqb, ◌⊎◌, List, ◌∷◌, length, get_or, filter, sym, ap, ◌∙◌, subst, inl, inr, arith}
 use Rattle.std.specs.List.{range_with_len, AllByRecursion as All}
 use Rattle.std.proofs.ByRecursion.{All-get_or, all_kept_by, kept_by_passes}
 use Rattle.std.proofs.lemmas.Bool.{eq-eqb, ne_eqb, eqb-true, or_cases, cond-true, cond-false, cond_both, cases_eq, true≢false}
-use Rattle.search.specs.Graphs.{Mesh, Lawful, Graph, Step, touches, incident, across}
+use Rattle.search.specs.Graphs.{Mesh, Lawful, touches, incident, across}
 
 module _ (m : Mesh) (u l : ℕ) where
   pub across_first : m.first l ≡ u → across m u l ≡ m.second l

@@ -1,5 +1,5 @@
 -- A path without a repeated cabinet has no link twice.
-use Rattle.std.proofs.Common.{◌≡◌, ℕ, ◌<◌, true, ◌⊎◌, List, [], ◌∷◌, sym, ◌∙◌, subst, inl, inr}
+use Rattle.std.proofs.Common.{◌≡◌, ℕ, ◌<◌, true, List, [], ◌∷◌, sym, ◌∙◌, subst, inl, inr}
 use Rattle.std.specs.List.{AllByRecursion as All}
 use Rattle.search.specs.Graphs.{Graph, Lawful, touches, across}
 use Rattle.search.specs.Laws.{EndOf, OnceLaw}

@@ -1,8 +1,8 @@
 -- What a separating set shows.
-use Rattle.std.proofs.Common.{◌≡◌, ℕ, ◌+◌, ◌<◌, ◌≤◌, Bool, true, false, List, [], ◌∷◌, length, get_or, set, sym, refl, ap, ◌∙◌, subst, arith, below_more}
+use Rattle.std.proofs.Common.{◌≡◌, ℕ, ◌+◌, ◌<◌, Bool, true, false, List, [], ◌∷◌, length, get_or, set, sym, ap, ◌∙◌, arith, below_more}
 use Rattle.std.proofs.lemmas.List.{get_or-set_same, get_or-set_other}
 use Rattle.std.proofs.lemmas.Bool.{both_ways}
-use Rattle.search.specs.Graphs.{Graph, Lawful, Step, across}
+use Rattle.search.specs.Graphs.{Graph, Lawful, across}
 use Rattle.search.specs.Spreads.{mark, Ended, Told}
 use Rattle.search.specs.Paths.{OpenPath, destination, Separates, Unreachable}
 use Rattle.search.specs.declared.marks.Mark.{Mark}

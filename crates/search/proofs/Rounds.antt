@@ -1,8 +1,8 @@
 -- One cabinet is taken from the queue, and has been left by each open step.
-use Rattle.std.proofs.Common.{◌≡◌, ℕ, ◌+◌, ◌<◌, ◌≤◌, true, false, ◌⊎◌, List, [], ◌∷◌, length, sym, refl, ap, ◌∙◌, subst, inl, inr, arith}
+use Rattle.std.proofs.Common.{◌≡◌, ℕ, true, List, [], ◌∷◌, sym, subst, inl, inr, arith}
 use Rattle.std.proofs.lemmas.Bool.{both_ways}
-use Rattle.search.specs.Graphs.{Graph, Step, incident}
-use Rattle.search.specs.Spreads.{mark, unreached, Waits, Taken, Closed, Spread, Leaving, Resting, Ended}
+use Rattle.search.specs.Graphs.{Graph, incident}
+use Rattle.search.specs.Spreads.{mark, Waits, Taken, Closed, Leaving, Resting, Ended}
 use Rattle.search.specs.declared.marks.Mark.{Mark}
 use Rattle.search.specs.declared.marks.Arrival.{Arrival}
 use Rattle.search.proofs.Meshes.{incident_complete}

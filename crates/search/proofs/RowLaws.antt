@@ -1,5 +1,5 @@
 -- Every link stands in the rows of its two ends and nowhere else, in ascending order.
-use Rattle.std.proofs.Common.{◌≡◌, ℕ, zero, suc, ◌+◌, ◌<◌, ◌≤◌, Bool, true, false, cond, eqb, ◌⊎◌, List, [], ◌∷◌, filter, inl, inr, arith}
+use Rattle.std.proofs.Common.{◌≡◌, ℕ, zero, suc, ◌+◌, ◌<◌, ◌≤◌, Bool, true, false, cond, eqb, List, [], ◌∷◌, filter, inl, inr, arith}
 use Rattle.std.specs.List.{range_with_len, ContainsAt as Has, AllByRecursion as All}
 use Rattle.std.proofs.ByRecursion.{all_kept_by, All-weaker, all_has_itself}
 use Rattle.std.proofs.lemmas.Bool.{eq-eqb, or_left, or_right}

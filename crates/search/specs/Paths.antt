@@ -1,7 +1,7 @@
 -- Paths of open steps, and what shows that there is none.
 use Rattle.std.specs.Prelude.{◌≡◌, ℕ, ◌<◌, Bool, true, false, List, [], ◌∷◌, get_or, take, drop, Some, None, Option, ◌≢◌, slice_index_or}
 use Rattle.std.specs.List.{AllByRecursion as All}
-use Rattle.search.specs.Graphs.{Graph, Lawful, Step, across}
+use Rattle.search.specs.Graphs.{Graph, Step, across}
 
 -- The links ls, taken in turn from the cabinet u, are open steps.
 abbrev pub OpenPath : Graph → ℕ → List ℕ → Type 0

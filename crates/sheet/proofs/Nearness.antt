@@ -1,5 +1,5 @@
 -- A stream's total is bounded by the slots of the links.
-use Rattle.std.proofs.Common.{◌≡◌, ℕ, suc, ◌+◌, ◌*◌, ◌<◌, ◌≤◌, Bool, true, false, eqb, List, [], ◌∷◌, length, get_or, ℤ, pos, ◌+ℤ◌, ◌-ℤ◌, nat_abs, sym, subst, arith}
+use Rattle.std.proofs.Common.{ℕ, suc, ◌+◌, ◌*◌, ◌<◌, ◌≤◌, Bool, true, false, eqb, List, [], ◌∷◌, length, get_or, ℤ, pos, ◌+ℤ◌, ◌-ℤ◌, nat_abs, sym, subst, arith}
 use Rattle.flow.specs.Ranges.{most_slots}
 use Rattle.flow.specs.Plans.{Shared}
 use Rattle.flow.specs.Nets.{only, here, after, net}

@@ -1,8 +1,7 @@
 -- The ground that a `Carried` is.
-use Rattle.std.specs.Prelude.{◌≡◌, ℕ, ◌<◌}
 use Rattle.std.proofs.Common.{arith}
 use Rattle.search.specs.Graphs.{Graph, Lawful}
-use Rattle.sheet.specs.Routes.{AllRuled, mesh_of, CarriedBy}
+use Rattle.sheet.specs.Routes.{CarriedBy}
 use Rattle.sheet.specs.declared.carried.Carried.{Carried}
 
 -- the steps along which its shares run

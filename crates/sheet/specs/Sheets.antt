@@ -1,5 +1,5 @@
 -- What a `Sheet` shows, by the struct.
-use Rattle.std.specs.Prelude.{List, Some, None, Option}
+use Rattle.std.specs.Prelude.{Some, None, Option}
 use Rattle.sheet.specs.declared.plan.Plan.{Plan}
 use Rattle.sheet.specs.declared.sheet.Sheet.{Sheet}
 use Rattle.sheet.specs.Readings as readings

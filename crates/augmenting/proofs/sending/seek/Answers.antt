@@ -1,4 +1,4 @@
-use Rattle.std.proofs.Common.{◌≡◌, ◌-◌, take, sym, ap, ◌∙◌, arith}
+use Rattle.std.proofs.Common.{◌≡◌, ◌-◌, take, ap}
 use native.Mathlib.Nat.{sub-zero}
 use Rattle.augmenting.proofs.Amounts.{found_route}
 use Rattle.augmenting.proofs.sending.seek.Goals as goal

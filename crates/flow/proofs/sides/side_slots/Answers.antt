@@ -1,4 +1,4 @@
-use Rattle.std.proofs.Common.{◌≡◌, ap, ◌∙◌, arith, take_all}
+use Rattle.std.proofs.Common.{ap, ◌∙◌, arith, take_all}
 use Rattle.flow.specs.Nets.{members, side_slots}
 use Rattle.flow.proofs.Steps.{slots_step}
 use Rattle.flow.proofs.sides.side_slots.Goals as goal

@@ -1,4 +1,4 @@
-use Rattle.std.proofs.Common.{◌≡◌, ℕ, ◌*◌, ℤ, pos, ◌≤ℤ◌, sym, subst, one-mul}
+use Rattle.std.proofs.Common.{ℕ, ◌*◌, ℤ, pos, ◌≤ℤ◌, sym, subst, one-mul}
 use Rattle.flow.specs.Ranges.{cabinets}
 use Rattle.flow.proofs.Duality.{first_bound, sum_bound, first_fractions, sum_fractions}
 use Rattle.flow.proofs.theorems.weak_duality.Goals as goal

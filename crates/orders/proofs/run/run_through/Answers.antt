@@ -1,4 +1,4 @@
-use Rattle.std.proofs.Common.{◌≡◌, ℕ, ◌+◌, List, ◌++◌, length, string_bytes, ap, ◌∙◌, subst, arith}
+use Rattle.std.proofs.Common.{◌≡◌, ℕ, ◌+◌, ◌++◌, length, string_bytes, ap, ◌∙◌, subst, arith}
 use Rattle.book.specs.Books.{view}
 use Rattle.orders.specs.declared.line.Line.{Line}
 use Rattle.orders.specs.Lines.{ended}

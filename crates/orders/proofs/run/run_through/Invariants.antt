@@ -1,5 +1,5 @@
 -- What has been read, carried out and told so far, and how much is left.
-use Rattle.std.proofs.Common.{◌≡◌, ◌-◌, List, length, string_bytes}
+use Rattle.std.proofs.Common.{◌≡◌, ◌-◌, length, string_bytes}
 use Rattle.book.specs.Books.{view}
 use Rattle.orders.proofs.Telling.{ToldSoFar}
 use Rattle.orders.proofs.run.run_through.Given as goal

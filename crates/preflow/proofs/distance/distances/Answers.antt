@@ -1,4 +1,4 @@
-use Rattle.std.proofs.Common.{◌≡◌, ℕ, ◌<◌, ◌≤◌, List, subst, arith}
+use Rattle.std.proofs.Common.{ℕ, ◌<◌, ◌≤◌, List, subst, arith}
 use Rattle.flow.specs.declared.taps.Taps.{Taps}
 use Rattle.engine.specs.declared.arc.Arc.{Arc}
 use Rattle.residual.specs.Networks.{links_in}

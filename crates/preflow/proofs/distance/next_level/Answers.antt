@@ -1,4 +1,4 @@
-use Rattle.std.proofs.Common.{◌≡◌, ℕ, ◌+◌, ◌<◌, List, length, sym, refl, subst, inl}
+use Rattle.std.proofs.Common.{◌≡◌, ℕ, ◌+◌, ◌<◌, List, sym, refl, subst, inl}
 use Rattle.engine.specs.declared.arc.Arc.{Arc}
 use Rattle.residual.specs.Networks.{links_in}
 use Rattle.preflow.specs.Heights.{high}

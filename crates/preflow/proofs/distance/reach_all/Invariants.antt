@@ -1,4 +1,4 @@
-use Rattle.std.proofs.Common.{◌≡◌, ℕ, ◌<◌, ◌≤◌, length, get_or, take}
+use Rattle.std.proofs.Common.{◌≡◌, ◌<◌, ◌≤◌, length, get_or, take}
 use Rattle.std.specs.List.{AllByRecursion as All}
 use Rattle.search.specs.Graphs.{across, incident}
 use Rattle.engine.specs.Arcs.{blank}

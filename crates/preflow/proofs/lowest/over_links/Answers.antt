@@ -1,14 +1,12 @@
-use Rattle.std.proofs.Common.{◌≡◌, ℕ, ◌+◌, ◌<◌, ◌≤◌, List, length, get_or, take, ℤ, sym, ap, ◌∙◌, subst, arith}
+use Rattle.std.proofs.Common.{◌≡◌, ℕ, ◌+◌, ◌≤◌, List, length, get_or, take, ℤ, sym, ap, ◌∙◌, subst, arith}
 use Rattle.std.specs.List.{AllByRecursion as All}
 use Rattle.std.proofs.lemmas.List.{take_all}
-use Rattle.search.specs.Graphs.{Mesh, incident, across}
+use Rattle.search.specs.Graphs.{incident}
 use Rattle.search.proofs.Meshes.{row_link, incident_complete}
 use Rattle.engine.specs.declared.arc.Arc.{Arc}
-use Rattle.residual.specs.Meshes.{mesh_of, free}
+use Rattle.residual.specs.Meshes.{mesh_of}
 use Rattle.residual.specs.Networks.{links_in}
-use Rattle.preflow.specs.declared.way.Way.TheVariants.{Over}
-use Rattle.preflow.specs.Heights.{high}
-use Rattle.preflow.specs.Ways.{Bounds, lowered}
+use Rattle.preflow.specs.Ways.{Bounds}
 use Rattle.preflow.proofs.Lowers.{scan_le, scan_leads, scan_all}
 use Rattle.preflow.proofs.lowest.over_links.Goals as goal
 

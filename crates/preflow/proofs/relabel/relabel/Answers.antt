@@ -1,4 +1,4 @@
-use Rattle.std.proofs.Common.{◌≡◌, ℕ, ◌≤◌, List, get_or, subst, inr, arith}
+use Rattle.std.proofs.Common.{ℕ, ◌≤◌, List, get_or, subst, inr, arith}
 use Rattle.preflow.specs.Heights.{Empty, Raised}
 use Rattle.preflow.proofs.relabel.relabel.Goals as goal
 

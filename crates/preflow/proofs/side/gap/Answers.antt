@@ -1,4 +1,4 @@
-use Rattle.std.proofs.Common.{ℕ, arith}
+use Rattle.std.proofs.Common.{arith}
 use Rattle.preflow.proofs.Levels.{row_more, row_short}
 use Rattle.preflow.proofs.side.gap.Goals as goal
 

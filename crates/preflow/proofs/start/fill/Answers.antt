@@ -1,4 +1,4 @@
-use Rattle.std.proofs.Common.{◌≡◌, ℕ, ◌+◌, ◌^◌, ◌<◌, List, get_or, sym, subst, arith}
+use Rattle.std.proofs.Common.{ℕ, ◌+◌, ◌^◌, ◌<◌, List, get_or, sym, subst, arith}
 use Rattle.preflow.proofs.Begins.{zeros, give_fits}
 use Rattle.preflow.proofs.start.fill.Goals as goal
 

@@ -1,4 +1,4 @@
-use Rattle.std.proofs.Common.{◌≡◌, ℕ, ◌<◌, ◌≤◌, List, length, drop, ℤ, sym, refl, ap, ◌∙◌, subst, arith}
+use Rattle.std.proofs.Common.{ℕ, List, drop, ℤ, sym, refl, subst}
 use Rattle.flow.specs.declared.taps.Taps.{Taps}
 use Rattle.search.specs.Queues.{items}
 use Rattle.engine.specs.declared.arc.Arc.{Arc}

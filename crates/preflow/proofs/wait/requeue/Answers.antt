@@ -1,4 +1,4 @@
-use Rattle.std.proofs.Common.{◌≡◌, ℕ, ◌∙◌, subst}
+use Rattle.std.proofs.Common.{ℕ, ◌∙◌, subst}
 use Rattle.search.specs.Rings.{Pushed}
 use Rattle.search.specs.Queues.{items, room}
 use Rattle.preflow.proofs.Queues.{items_fit, requeued}

@@ -1,4 +1,4 @@
-use Rattle.std.proofs.Common.{◌≡◌, ◌<◌, ◌≢◌, length, sym, ◌∙◌, subst, arith, below_more}
+use Rattle.std.proofs.Common.{◌<◌, length, sym, ◌∙◌, subst, arith, below_more}
 use Rattle.std.proofs.lemmas.List.{length-set, get_or-set_same, get_or-set_other}
 use Rattle.engine.specs.Arcs.{Sound, blank}
 use Rattle.samples.proofs.jobs.next_arcs.Goals as goal

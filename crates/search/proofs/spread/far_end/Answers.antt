@@ -1,4 +1,4 @@
-use Rattle.std.proofs.Common.{sym, ap, ◌∙◌, arith}
+use Rattle.std.proofs.Common.{sym, ◌∙◌, arith}
 use Rattle.search.proofs.Meshes.{across_first, across_second}
 use Rattle.search.proofs.spread.far_end.Goals as goal
 

@@ -1,5 +1,5 @@
-use Rattle.std.proofs.Common.{length, ap, arith}
-use Rattle.search.proofs.Rounds.{picked_at, rested, ended_reached, ended_empty}
+use Rattle.std.proofs.Common.{arith}
+use Rattle.search.proofs.Rounds.{picked_at, rested}
 use Rattle.search.proofs.spread.flood.Goals as goal
 
 pub leave-requires : goal.leave-requires

@@ -1,4 +1,4 @@
-use Rattle.std.proofs.Common.{◌≡◌, ◌+◌, ◌≤◌, length, take}
+use Rattle.std.proofs.Common.{◌≡◌, ◌+◌, length, take}
 use Rattle.search.specs.Graphs.{incident}
 use Rattle.search.specs.Queues.{items, room}
 use Rattle.search.specs.Spreads.{Leaving, unreached}

@@ -1,4 +1,4 @@
-use Rattle.std.proofs.Common.{◌+◌, ◌≤◌, arith}
+use Rattle.std.proofs.Common.{arith}
 use Rattle.search.specs.Graphs.{mesh_by}
 use Rattle.search.specs.Rows.{Starts}
 use Rattle.search.proofs.Fillings.{starts_room, rises_end}

@@ -1,4 +1,4 @@
-use Rattle.std.proofs.Common.{◌≡◌, ℕ, ◌-◌, List, ◌∷◌, sym, refl, ap, ◌∙◌, arith}
+use Rattle.std.proofs.Common.{ℕ, ◌-◌, ◌∷◌, sym, refl, ap, ◌∙◌, arith}
 use Rattle.search.specs.Rings.{held, after}
 use Rattle.search.proofs.Rings.{pop_after}
 use Rattle.search.proofs.queue.Queue.pop.Goals as goal

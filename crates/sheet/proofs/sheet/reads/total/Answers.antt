@@ -1,4 +1,4 @@
-use Rattle.std.proofs.Common.{◌≡◌, ◌*◌, ◌≤◌, nat_abs, ap, ◌∙◌, arith, w64, to_z, of_z, rules}
+use Rattle.std.proofs.Common.{◌≡◌, nat_abs, ap, ◌∙◌, arith, w64, to_z, of_z, rules}
 use Rattle.std.proofs.lemmas.Int.{ints}
 use Rattle.sheet.proofs.Nearness.{net_near}
 use Rattle.sheet.proofs.sheet.reads.total.Goals as goal
