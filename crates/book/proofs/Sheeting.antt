@@ -9,7 +9,7 @@ use Rattle.plan.specs.declared.sides.Sides.{Sides}
 use Rattle.mesh.specs.declared.row.Row.{Row}
 use Rattle.mesh.specs.Links.{blank, capacity_of}
 use Rattle.sheet.specs.Routes.{AllRuled}
-use Rattle.sheet.specs.declared.plan.Plan.{Plan as Lent}
+use Rattle.sheet.specs.declared.held.Plan.{Plan as Lent}
 use Rattle.sheet.specs.Readings as readings
 use Rattle.sheet.specs.Sheets.{plan_shown}
 use Rattle.book.specs.History.{State, Past}

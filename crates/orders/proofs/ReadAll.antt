@@ -1,6 +1,6 @@
 -- How readings follow one another to the end of a file, and that a file has one reading.
 use Rattle.std.proofs.Common.{◌≡◌, ℕ, zero, suc, ◌+◌, ◌*◌, ◌≤◌, List, [], ◌∷◌, ◌++◌, length, drop, Ok, Err, Result, sym, refl, ap, ◌∙◌, subst, append_assoc, arith}
-use Rattle.std.specs.List.{flat_map, AllByRecursion as All}
+use Rattle.std.specs.List.{flat_map, AllByRecursion}
 use Rattle.std.proofs.ByRecursion.{All-push}
 use Rattle.std.proofs.lemmas.List.{length-append, append_cancel_left, drop-drop, flat_map_more}
 use Rattle.orders.specs.declared.record.Stop.{Stop}
@@ -76,7 +76,7 @@ module _ {K : Type 0} (table : List (Entry K)) where
       refl
 
   -- Two readings that join to the same bytes are the same.
-  same_joins : (items others : List (Item K)) (rest left : List ℕ) (s t : Stop) → Apart table → All (Known table) items → All (Known table) others → Stops table rest s → Stops table left t → flat_map bytes items ++ rest ≡ flat_map bytes others ++ left → (items ≡ others) × (s ≡ t)
+  same_joins : (items others : List (Item K)) (rest left : List ℕ) (s t : Stop) → Apart table → AllByRecursion (Known table) items → AllByRecursion (Known table) others → Stops table rest s → Stops table left t → flat_map bytes items ++ rest ≡ flat_map bytes others ++ left → (items ≡ others) × (s ≡ t)
   same_joins [] [] rest left s t apart ks ls p q h = (refl, stops_same table left s t (subst (λ (bs : List ℕ). Stops table bs s) h p) q)
   same_joins [] (j ∷ js) rest left s t apart ks ls p q h =
       let front = h ∙ append_assoc (bytes j) (flat_map bytes js) left in

@@ -1,6 +1,6 @@
 -- What one reading gives, for any table in which no two lines have the same mark.
 use Rattle.std.proofs.Common.{◌≡◌, ℕ, ◌≤◌, Bool, true, false, cond, ◌&&◌, eqb, leb, List, [], ◌∷◌, ◌++◌, length, take, drop, Some, None, Ok, Err, Option, Result, refl, ap, ◌∙◌, subst, inl, inr, arith}
-use Rattle.std.specs.List.{ContainsAt as Has, AllByRecursion as All}
+use Rattle.std.specs.List.{ContainsAt as Has, AllByRecursion}
 use Rattle.std.proofs.ByRecursion.{all-has, has_append_right}
 use Rattle.std.proofs.lemmas.List.{length-append, length-take-le, take-append-drop, take_at}
 use Rattle.std.proofs.lemmas.Bool.{and_parts, eqb-true, leb-true, leb-false, le-leb, cond-true}
@@ -13,7 +13,7 @@ use Rattle.orders.specs.Records.{Entry, Item, bytes, lookup, cut, read, Known, B
 module _ {K : Type 0} where
   -- No two lines of the table have the same mark: each line is the one that its own mark finds.
   abbrev pub Apart : List (Entry K) → Type 0
-  Apart table = All (λ e. lookup table e.first e.second ≡ Some e) table
+  Apart table = AllByRecursion (λ e. lookup table e.first e.second ≡ Some e) table
 
   -- A line that a mark finds stands in the table and has that mark.
   pub lookup_finds : (table : List (Entry K)) (a b : ℕ) (e : Entry K) → lookup table a b ≡ Some e → Has table e × (a ≡ e.first) × (b ≡ e.second)

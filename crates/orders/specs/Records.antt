@@ -1,6 +1,6 @@
 -- The records of a file: a table of marks and body lengths, what reading one gives, and what it is to read a whole file.
 use Rattle.std.specs.Prelude.{◌≡◌, ℕ, ◌<◌, ◌≤◌, cond, ◌&&◌, ◌⊎◌, List, [], ◌∷◌, ◌++◌, length, take, drop, Some, None, Ok, Err, Option, Result, ◌==◌, ◌≢◌, nat_le}
-use Rattle.std.specs.List.{ContainsAt as Has, flat_map, AllByRecursion as All}
+use Rattle.std.specs.List.{ContainsAt as Has, flat_map, AllByRecursion}
 use Rattle.orders.specs.declared.kind.Kind.{Kind}
 use Rattle.orders.specs.declared.kind.Kind.TheVariants.{Lk, Sz, Dr, St, Pl}
 use Rattle.orders.specs.declared.record.RecordFault.{RecordFault}
@@ -80,14 +80,14 @@ Stops table bs (Fault f) = (Begins table bs → ⊥) × Deserve table bs f
 pub record ReadAs {K : Type 0} (table : List (Entry K)) (file : List ℕ) (items : List (Item K)) (stop : Stop) : Type 0 where
   pub rest : List ℕ
   pub joins : file ≡ flat_map bytes items ++ rest
-  pub known : All (Known table) items
+  pub known : AllByRecursion (Known table) items
   pub stops : Stops table rest stop
 
 -- The file up to this place is these records' bytes one after another.
 pub record ReadUpTo {K : Type 0} (table : List (Entry K)) (file : List ℕ) (items : List (Item K)) (place : ℕ) : Type 0 where
   pub joins : file ≡ flat_map bytes items ++ drop place file
   pub long : place ≡ length (flat_map bytes items)
-  pub known : All (Known table) items
+  pub known : AllByRecursion (Known table) items
 
 -- Every file is read in one way and no other.
 abbrev pub ReadOnce : {K : Type 0} → List (Entry K) → Type 0

@@ -1,6 +1,6 @@
 -- A relabel keeps a preflow with valid heights, stays below the bound, and takes from the measure.
 use Rattle.std.proofs.Common.{◌≡◌, ℕ, suc, ◌<◌, ◌≤◌, List, [], ◌∷◌, length, get_or, set, ℤ, sum, sym, refl, ◌∙◌, subst, inl, inr, ⊎_elim, arith}
-use Rattle.std.specs.List.{AllByRecursion as All}
+use Rattle.std.specs.List.{AllByRecursion}
 use Rattle.std.proofs.lemmas.List.{length-set}
 use Rattle.std.proofs.lemmas.List.Sums.{sum_by-cons, sum_by-set}
 use Rattle.std.proofs.ByRecursion.{sum_by_le, All-from_get_or}
@@ -41,7 +41,7 @@ other_heights ls at most amount fs ex hs after s tall valid low =
 -- where the heights rise, the measure falls
 heights_fall : (ls : List Arc) (at most amount : Taps ℕ) (fs : List ℤ) (ex hs after : List ℕ) → Labeled ls at most amount fs ex after → sum hs < sum after → measure ex after < measure ex hs
 heights_fall ls at most amount fs ex hs after s up =
-    let all : All (λ h. h ≤ 130) after = All-from_get_or (λ h. h ≤ 130) after 0 (λ i l. omega (arith, s.low i (omega (arith, s.tall)))) in
+    let all : AllByRecursion (λ h. h ≤ 130) after = All-from_get_or (λ h. h ≤ 130) after 0 (λ i l. omega (arith, s.low i (omega (arith, s.tall)))) in
     omega (arith, up, sum_by_le (λ x. x) 130 after all, s.tall, dot_most 130 ex after all, sum_small ls at most amount fs ex after s)
 
 module _ (ls : List Arc) (at most amount : Taps ℕ) (fs : List ℤ) (ex hs : List ℕ) (s : Labeled ls at most amount fs ex hs) (v m : ℕ) (v_in : v < cabinets) (active : 0 < get_or ex v 0) (up : high hs v < m) (least : Least ls at most amount fs hs v m) where

@@ -1,6 +1,6 @@
 -- The better of two ways, and the lowest of all.
 use Rattle.std.proofs.Common.{◌≡◌, ℕ, ◌+◌, ◌-◌, ◌<◌, ◌≤◌, true, cond, eqb, ltb, List, length, get_or, take, ℤ, sym, refl, subst, ⊎_elim, le_refl, arith}
-use Rattle.std.specs.List.{AllByRecursion as All}
+use Rattle.std.specs.List.{AllByRecursion}
 use Rattle.std.proofs.ByRecursion.{All-more, All-weaker}
 use Rattle.std.proofs.lemmas.Bool.{cond_both, ltb-true, ltb-false, leb-true, le-leb, cases_eq, cond-true, cond-false, eq-eqb, ne_eqb}
 use Rattle.flow.specs.declared.taps.Taps.{Taps}
@@ -79,7 +79,7 @@ module _ (ls : List Arc) (fs : List ℤ) (hs : List ℕ) (v : ℕ) where
         then_any best m (free ls fs v l) (Over l) next e (λ b. Leads ls at most amount fs hs v b.height b.room b.way) old
         (λ some. (record { listed = h; touching = t; clear = le-leb (free ls fs v l) (free ls fs v l) (le_refl (free ls fs v l)) }, refl, some))
 
-  pub scan_all : (best next : Best) (row : List ℕ) (i : ℕ) → i < length row → next ≡ lowered best (high hs (across (mesh_of ls) v (get_or row i 0)) + 1) (free ls fs v (get_or row i 0)) (Over (get_or row i 0)) → All (Bounds ls fs hs v best.height) (take i row) → All (Bounds ls fs hs v next.height) (take (i + 1) row)
+  pub scan_all : (best next : Best) (row : List ℕ) (i : ℕ) → i < length row → next ≡ lowered best (high hs (across (mesh_of ls) v (get_or row i 0)) + 1) (free ls fs v (get_or row i 0)) (Over (get_or row i 0)) → AllByRecursion (Bounds ls fs hs v best.height) (take i row) → AllByRecursion (Bounds ls fs hs v next.height) (take (i + 1) row)
   scan_all best next row i h e seen =
       All-more (Bounds ls fs hs v next.height) row i 0 h
       (All-weaker (Bounds ls fs hs v best.height) (Bounds ls fs hs v next.height) (λ l b. bounds_less best.height next.height l (scan_le best next (get_or row i 0) e) b) (take i row) seen)

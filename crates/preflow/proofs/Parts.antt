@@ -1,6 +1,6 @@
 -- What taking a part of a cabinet's excess, or giving one to it, does to the excess, to its sum and to the measure.
 use Rattle.std.proofs.Common.{◌≡◌, ℕ, zero, suc, ◌+◌, ◌-◌, ◌*◌, ◌<◌, ◌≤◌, eqb, List, [], ◌∷◌, length, get_or, set, pos, ◌+ℤ◌, sum, sym, ap, ◌∙◌, subst, ⊎_elim, add-mul, mul-le-mul_left, mul-one, mul-add, arith}
-use Rattle.std.specs.List.{AllByRecursion as All}
+use Rattle.std.specs.List.{AllByRecursion}
 use Rattle.std.proofs.lemmas.List.{get_or-set_same, get_or-set_other}
 use Rattle.std.proofs.lemmas.List.Sums.{sum_by-set, sum_by-cons}
 use Rattle.std.proofs.lemmas.Bool.{cases_eq, eq-eqb, ne_eqb}
@@ -20,7 +20,7 @@ dot_set (e ∷ es) (h ∷ hs) zero x l m = omega arith
 dot_set (e ∷ es) (h ∷ hs) (suc i) x l m = omega (arith, dot_set es hs i x (omega arith) (omega arith))
 
 -- the sum of excess times height is at most the sum of excess times the greatest height
-pub dot_most : (most : ℕ) (es hs : List ℕ) → All (λ h. h ≤ most) hs → dot es hs ≤ sum es * most
+pub dot_most : (most : ℕ) (es hs : List ℕ) → AllByRecursion (λ h. h ≤ most) hs → dot es hs ≤ sum es * most
 dot_most most [] hs low = omega arith
 dot_most most (e ∷ es) [] low = omega arith
 dot_most most (e ∷ es) (h ∷ hs) low =

@@ -1,6 +1,6 @@
 -- The backward search from the drains, level by level, before anything flows.
 use Rattle.std.proofs.Common.{◌≡◌, ℕ, ◌+◌, ◌<◌, ◌≤◌, Bool, true, false, eqb, leb, List, [], length, get_or, take, replicate, ℤ, pos, sym, refl, ap, ◌∙◌, subst, inl, inr, ⊎_elim, arith}
-use Rattle.std.specs.List.{AllByRecursion as All}
+use Rattle.std.specs.List.{AllByRecursion}
 use Rattle.std.proofs.lemmas.List.{get_or-replicate}
 use Rattle.std.proofs.ByRecursion.{All-more, All-weaker}
 use Rattle.std.proofs.lemmas.Bool.{leb-true, eq-eqb, or_left, or_right, cases_eq}
@@ -62,14 +62,14 @@ module _ (ls : List Arc) (sound : AllSound ls) where
       omega (arith, h u l step e, le u (step_ends ls sound u l step.listed step.touching).0)
 
   -- what holds of the links of a row holds of all steps into its cabinet
-  pub into_row : (hs : List ℕ) (v m : ℕ) → All (λ l. 0 < (get_or ls l blank).limit → high hs (across (mesh_of ls) v l) ≤ m) (incident (mesh_of ls) v) → Into ls hs v m
+  pub into_row : (hs : List ℕ) (v m : ℕ) → AllByRecursion (λ l. 0 < (get_or ls l blank).limit → high hs (across (mesh_of ls) v l) ≤ m) (incident (mesh_of ls) v) → Into ls hs v m
   into_row hs v m all u l step e =
       let back = across_back ls sound u l step.listed step.touching in
       let near = incident_complete (mesh_of ls) v (λ k. 0 < (get_or ls k blank).limit → high hs (across (mesh_of ls) v k) ≤ m) all l step.listed (subst (λ w. touches (mesh_of ls) w l ≡ true) e back.0) (omega (arith, leb-true 1 (free ls [] u l) step.clear, free_none (get_or ls l blank).limit (ahead ls u l))) in
       omega (arith, near, ap (high hs) (subst (λ w. across (mesh_of ls) w l ≡ u) e back.1))
 
   -- one link more of a row
-  pub row_more : (hs after row : List ℕ) (v m i : ℕ) → i < length row → Lowered m hs after → All (λ l. (l < length ls) × (0 < (get_or ls l blank).limit → high hs (across (mesh_of ls) v l) ≤ m)) (take i row) → get_or row i 0 < length ls → touches (mesh_of ls) v (get_or row i 0) ≡ true → ((l : ℕ) → l < length ls → across (mesh_of ls) v l < cabinets) → (0 < (get_or ls (get_or row i 0) blank).limit → high after (across (mesh_of ls) v (get_or row i 0)) ≤ m) → All (λ l. (l < length ls) × (0 < (get_or ls l blank).limit → high after (across (mesh_of ls) v l) ≤ m)) (take (i + 1) row)
+  pub row_more : (hs after row : List ℕ) (v m i : ℕ) → i < length row → Lowered m hs after → AllByRecursion (λ l. (l < length ls) × (0 < (get_or ls l blank).limit → high hs (across (mesh_of ls) v l) ≤ m)) (take i row) → get_or row i 0 < length ls → touches (mesh_of ls) v (get_or row i 0) ≡ true → ((l : ℕ) → l < length ls → across (mesh_of ls) v l < cabinets) → (0 < (get_or ls (get_or row i 0) blank).limit → high after (across (mesh_of ls) v (get_or row i 0)) ≤ m) → AllByRecursion (λ l. (l < length ls) × (0 < (get_or ls l blank).limit → high after (across (mesh_of ls) v l) ≤ m)) (take (i + 1) row)
   row_more hs after row v m i h low seen listed t in_range here =
       All-more (λ l. (l < length ls) × (0 < (get_or ls l blank).limit → high after (across (mesh_of ls) v l) ≤ m)) row i 0 h
       (All-weaker (λ l. (l < length ls) × (0 < (get_or ls l blank).limit → high hs (across (mesh_of ls) v l) ≤ m)) (λ l. (l < length ls) × (0 < (get_or ls l blank).limit → high after (across (mesh_of ls) v l) ≤ m)) (λ l p. (p.0, λ some. omega (arith, p.1 some, lowered_le m hs after low (across (mesh_of ls) v l) (in_range l p.0)))) (take i row) seen)

@@ -1,6 +1,6 @@
 -- The least free amount of a path, and the steps of the loop that raises the flow along it.
 use Rattle.std.proofs.Common.{◌≡◌, ℕ, ◌+◌, ◌<◌, ◌≤◌, min, Bool, true, false, cond, eqb, leb, ◌⊎◌, List, [], ◌∷◌, length, get_or, drop, set, ℤ, pos, ◌+ℤ◌, ◌-ℤ◌, neg_ℤ, nat_abs, sym, refl, ap, ◌∙◌, subst, inl, inr, arith}
-use Rattle.std.specs.List.{AllByRecursion as All}
+use Rattle.std.specs.List.{AllByRecursion}
 use Rattle.std.proofs.lemmas.List.{get_or-set_other, drop-set-lt, drop_more, drop_all}
 use Rattle.std.proofs.lemmas.Bool.{eqb-true, eqb-false, leb-true, le-leb}
 use Rattle.flow.specs.Ranges.{most_limit}
@@ -80,7 +80,7 @@ route_of ls fs x u path w laws p o = record { steps = o; once = links_once (resi
 
 module _ (ls : List Arc) (fs : List ℤ) (x l : ℕ) (z : ℤ) where
   -- another link has as much free as before
-  open_set : (u : ℕ) (path : List ℕ) → All (λ m. l ≡ m → ⊥) path → OpenPath (residual ls fs x) u path → OpenPath (residual ls (set fs l z) x) u path
+  open_set : (u : ℕ) (path : List ℕ) → AllByRecursion (λ m. l ≡ m → ⊥) path → OpenPath (residual ls fs x) u path → OpenPath (residual ls (set fs l z) x) u path
   open_set u [] a o = tt
   open_set u (m ∷ rest) a o = (
     record {

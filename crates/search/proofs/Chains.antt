@@ -1,6 +1,6 @@
 -- The chain of the marks back from a reached cabinet is a simple path from the start.
 use Rattle.std.proofs.Common.{◌≡◌, ℕ, zero, suc, ◌+◌, ◌-◌, ◌<◌, ◌≤◌, true, List, [], ◌∷◌, ◌++◌, length, take, drop, set, sym, refl, ap, ◌∙◌, subst, inl, inr, arith}
-use Rattle.std.specs.List.{between, AllByRecursion as All}
+use Rattle.std.specs.List.{between, AllByRecursion}
 use Rattle.std.proofs.lemmas.List.{drop-set, drop-set-lt, append_assoc, append-nil}
 use Rattle.std.proofs.ByRecursion.{All-push, All-weaker}
 use Rattle.search.specs.Graphs.{Graph, Step, across}
@@ -21,7 +21,7 @@ module _ (g : Graph) (l : ℕ) where
   visited_push u [] = refl
   visited_push u (k ∷ ls) = ap (λ (vs : List ℕ). u ∷ vs) (visited_push (across g.mesh u k) ls)
 
-distinct_push : (xs : List ℕ) (y : ℕ) → Distinct xs → All (λ x. x ≡ y → ⊥) xs → Distinct (xs ++ (y ∷ []))
+distinct_push : (xs : List ℕ) (y : ℕ) → Distinct xs → AllByRecursion (λ x. x ≡ y → ⊥) xs → Distinct (xs ++ (y ∷ []))
 distinct_push [] y d a = (tt, tt)
 distinct_push (x ∷ xs) y d a = (All-push (λ z. x ≡ z → ⊥) xs y d.0 a.0, distinct_push xs y d.1 a.1)
 
@@ -29,7 +29,7 @@ module _ (g : Graph) (start : ℕ) (ms : List Mark) (tree : Tree g start ms) whe
   -- the path, with the cabinets on it no higher than its end
   record Climb (ls : List ℕ) (c k : ℕ) : Type 0 where
     path : SimplePath g start ls c
-    below : All (λ x. (mark ms x).level ≤ k) (visited g start ls)
+    below : AllByRecursion (λ x. (mark ms x).level ≤ k) (visited g start ls)
 
   climbed_more : (ls : List ℕ) (c k : ℕ) → (mark ms c).level ≡ suc k → Stepped g ms c (mark ms c) → Climb ls (mark ms c).from k → Climb (ls ++ ((mark ms c).over ∷ [])) c (suc k)
   climbed_more ls c k h s b =
@@ -39,7 +39,7 @@ module _ (g : Graph) (start : ℕ) (ms : List Mark) (tree : Tree g start ms) whe
       let to : across g.mesh (destination g start ls) l ≡ c = ap (λ (x : ℕ). across g.mesh x l) p.arrives ∙ s.leads in
       let all : visited g start (ls ++ (l ∷ [])) ≡ visited g start ls ++ (c ∷ []) =
       visited_push g l start ls ∙ ap (λ (x : ℕ). visited g start ls ++ (x ∷ [])) to in
-      let fresh : All (λ x. x ≡ c → ⊥) (visited g start ls) =
+      let fresh : AllByRecursion (λ x. x ≡ c → ⊥) (visited g start ls) =
       All-weaker (λ x. (mark ms x).level ≤ k) (λ x. x ≡ c → ⊥) (λ x le e. let z : (mark ms x).level ≡ (mark ms c).level = ap (λ (y : ℕ). (mark ms y).level) e in omega arith) (visited g start ls) b.below in
       record {
         path = record {
@@ -47,7 +47,7 @@ module _ (g : Graph) (start : ℕ) (ms : List Mark) (tree : Tree g start ms) whe
           arrives = destination_push g l start ls ∙ to;
           simple = subst Distinct (sym all) (distinct_push (visited g start ls) c p.simple fresh);
         };
-        below = subst (All (λ x. (mark ms x).level ≤ suc k)) (sym all)
+        below = subst (AllByRecursion (λ x. (mark ms x).level ≤ suc k)) (sym all)
             (All-push (λ x. (mark ms x).level ≤ suc k) (visited g start ls) c (All-weaker (λ x. (mark ms x).level ≤ k) (λ x. (mark ms x).level ≤ suc k) (λ x le. omega arith) (visited g start ls) b.below) (omega arith));
       }
 

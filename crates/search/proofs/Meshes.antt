@@ -1,6 +1,6 @@
 -- The ends of a link, and the links at a cabinet.
 use Rattle.std.proofs.Common.{◌≡◌, ℕ, zero, suc, ◌+◌, ◌<◌, ◌≤◌, Bool, true, false, cond, eqb, ◌⊎◌, List, ◌∷◌, length, get_or, filter, sym, ap, ◌∙◌, subst, inl, inr, arith}
-use Rattle.std.specs.List.{range_with_len, AllByRecursion as All}
+use Rattle.std.specs.List.{range_with_len, AllByRecursion}
 use Rattle.std.proofs.ByRecursion.{All-get_or, all_kept_by, kept_by_passes}
 use Rattle.std.proofs.lemmas.Bool.{eq-eqb, ne_eqb, eqb-true, or_cases, cond-true, cond-false, cond_both, cases_eq, true≢false}
 use Rattle.search.specs.Graphs.{Mesh, Lawful, touches, incident, across}
@@ -22,25 +22,25 @@ module _ (m : Mesh) (u l : ℕ) where
     | inr b ↦ inr (eqb-true (m.second l) u b)
   ]
 
-counting_below : (a n : ℕ) → All (λ l. l < a + n) (range_with_len a n)
+counting_below : (a n : ℕ) → AllByRecursion (λ l. l < a + n) (range_with_len a n)
 counting_below a zero = tt
 counting_below a (suc n) =
     let e : (a + 1) + n ≡ a + suc n = omega arith in
-    (omega arith, subst (λ (b : ℕ). All (λ l. l < b) (range_with_len (a + 1) n)) e (counting_below (a + 1) n))
+    (omega arith, subst (λ (b : ℕ). AllByRecursion (λ l. l < b) (range_with_len (a + 1) n)) e (counting_below (a + 1) n))
 
 -- Each link of the row is listed, and touches the cabinet.
-pub incident_sound : (m : Mesh) (v : ℕ) → All (λ l. l < m.links) (incident m v) × All (λ l. touches m v l ≡ true) (incident m v)
+pub incident_sound : (m : Mesh) (v : ℕ) → AllByRecursion (λ l. l < m.links) (incident m v) × AllByRecursion (λ l. touches m v l ≡ true) (incident m v)
 incident_sound m v =
     let e : 0 + m.links ≡ m.links = omega arith in (
-      all_kept_by (touches m v) (λ l. l < m.links) (range_with_len 0 m.links) (subst (λ (b : ℕ). All (λ l. l < b) (range_with_len 0 m.links)) e (counting_below 0 m.links)),
+      all_kept_by (touches m v) (λ l. l < m.links) (range_with_len 0 m.links) (subst (λ (b : ℕ). AllByRecursion (λ l. l < b) (range_with_len 0 m.links)) e (counting_below 0 m.links)),
       kept_by_passes (touches m v) (range_with_len 0 m.links),
     )
 
-kept_cons : (p : ℕ → Bool) (P : ℕ → Type 0) (x : ℕ) (xs : List ℕ) (b : Bool) → All P (cond b (x ∷ filter p xs) (filter p xs)) → All P (filter p xs) × (b ≡ true → P x)
+kept_cons : (p : ℕ → Bool) (P : ℕ → Type 0) (x : ℕ) (xs : List ℕ) (b : Bool) → AllByRecursion P (cond b (x ∷ filter p xs) (filter p xs)) → AllByRecursion P (filter p xs) × (b ≡ true → P x)
 kept_cons p P x xs true a = (a.1, λ _. a.0)
 kept_cons p P x xs false a = (a, λ h. absurd (true≢false (sym h)))
 
-kept_counting : (p : ℕ → Bool) (P : ℕ → Type 0) (a n l : ℕ) → All P (filter p (range_with_len a n)) → a ≤ l → l < a + n → p l ≡ true → P l
+kept_counting : (p : ℕ → Bool) (P : ℕ → Type 0) (a n l : ℕ) → AllByRecursion P (filter p (range_with_len a n)) → a ≤ l → l < a + n → p l ≡ true → P l
 kept_counting p P a zero l h lo hi t = absurd (omega arith)
 kept_counting p P a (suc n) l h lo hi t =
     let k = kept_cons p P a (range_with_len (a + 1) n) (p a) h in
@@ -50,7 +50,7 @@ kept_counting p P a (suc n) l h lo hi t =
     ]
 
 -- What holds of each link of the row holds of each link that touches the cabinet.
-pub incident_complete : (m : Mesh) (v : ℕ) (P : ℕ → Type 0) → All P (incident m v) → (l : ℕ) → l < m.links → touches m v l ≡ true → P l
+pub incident_complete : (m : Mesh) (v : ℕ) (P : ℕ → Type 0) → AllByRecursion P (incident m v) → (l : ℕ) → l < m.links → touches m v l ≡ true → P l
 incident_complete m v P a l h t = kept_counting (touches m v) P 0 m.links l a (omega arith) (omega arith) t
 
 -- The link at a place of the row.

@@ -1,6 +1,6 @@
 -- A path without a repeated cabinet has no link twice.
 use Rattle.std.proofs.Common.{◌≡◌, ℕ, ◌<◌, true, List, [], ◌∷◌, sym, ◌∙◌, subst, inl, inr}
-use Rattle.std.specs.List.{AllByRecursion as All}
+use Rattle.std.specs.List.{AllByRecursion}
 use Rattle.search.specs.Graphs.{Graph, Lawful, touches, across}
 use Rattle.search.specs.Laws.{EndOf, OnceLaw}
 use Rattle.search.specs.Paths.{OpenPath, visited, Distinct}
@@ -14,12 +14,12 @@ module _ (g : Graph) (laws : Lawful g.mesh) where
   back u c l h (inr a) (inl b) ne = across_first g.mesh c l b ∙ a
   back u c l h (inr a) (inr b) ne = absurd (ne (sym a ∙ b))
 
-  first_visited : (P : ℕ → Type 0) (c : ℕ) (ls : List ℕ) → All P (visited g c ls) → P c
+  first_visited : (P : ℕ → Type 0) (c : ℕ) (ls : List ℕ) → AllByRecursion P (visited g c ls) → P c
   first_visited P c [] a = a.0
   first_visited P c (l ∷ ls) a = a.0
 
   -- a link at u is on no open path that avoids u
-  avoided : (u l : ℕ) → touches g.mesh u l ≡ true → (c : ℕ) (ls : List ℕ) → OpenPath g c ls → All (λ y. u ≡ y → ⊥) (visited g c ls) → All (λ k. l ≡ k → ⊥) ls
+  avoided : (u l : ℕ) → touches g.mesh u l ≡ true → (c : ℕ) (ls : List ℕ) → OpenPath g c ls → AllByRecursion (λ y. u ≡ y → ⊥) (visited g c ls) → AllByRecursion (λ k. l ≡ k → ⊥) ls
   avoided u l t c [] o a = tt
   avoided u l t c (k ∷ ls) o a = (
     λ e.

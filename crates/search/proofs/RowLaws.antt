@@ -1,21 +1,21 @@
 -- Every link stands in the rows of its two ends and nowhere else, in ascending order.
 use Rattle.std.proofs.Common.{◌≡◌, ℕ, zero, suc, ◌+◌, ◌<◌, ◌≤◌, Bool, true, false, cond, eqb, List, [], ◌∷◌, filter, inl, inr, arith}
-use Rattle.std.specs.List.{range_with_len, ContainsAt as Has, AllByRecursion as All}
+use Rattle.std.specs.List.{range_with_len, ContainsAt as Has, AllByRecursion}
 use Rattle.std.proofs.ByRecursion.{all_kept_by, All-weaker, all_has_itself}
 use Rattle.std.proofs.lemmas.Bool.{eq-eqb, or_left, or_right}
 use Rattle.search.specs.Graphs.{Mesh, touches, incident}
 use Rattle.search.specs.Laws.{EndOf, Ascending, RowLaw}
 use Rattle.search.proofs.Meshes.{touch_cases, incident_sound, incident_complete}
 
-both : (P Q : ℕ → Type 0) (xs : List ℕ) → All P xs → All Q xs → All (λ x. P x × Q x) xs
+both : (P Q : ℕ → Type 0) (xs : List ℕ) → AllByRecursion P xs → AllByRecursion Q xs → AllByRecursion (λ x. P x × Q x) xs
 both P Q [] a b = tt
 both P Q (x ∷ xs) a b = ((a.0, b.0), both P Q xs a.1 b.1)
 
-counting_above : (a n : ℕ) → All (λ l. a ≤ l) (range_with_len a n)
+counting_above : (a n : ℕ) → AllByRecursion (λ l. a ≤ l) (range_with_len a n)
 counting_above a zero = tt
 counting_above a (suc n) = (omega arith, All-weaker (λ l. a + 1 ≤ l) (λ l. a ≤ l) (λ l h. omega arith) (range_with_len (a + 1) n) (counting_above (a + 1) n))
 
-ascending_cons : (p : ℕ → Bool) (x : ℕ) (xs : List ℕ) (b : Bool) → All (λ y. x < y) (filter p xs) → Ascending (filter p xs) → Ascending (cond b (x ∷ filter p xs) (filter p xs))
+ascending_cons : (p : ℕ → Bool) (x : ℕ) (xs : List ℕ) (b : Bool) → AllByRecursion (λ y. x < y) (filter p xs) → Ascending (filter p xs) → Ascending (cond b (x ∷ filter p xs) (filter p xs))
 ascending_cons p x xs true h a = (h, a)
 ascending_cons p x xs false h a = a
 

@@ -1,6 +1,6 @@
 -- Laws of rows and of paths.
 use Rattle.std.specs.Prelude.{◌≡◌, ℕ, ◌<◌, ◌⊎◌, List, [], ◌∷◌}
-use Rattle.std.specs.List.{ContainsAt as Has, AllByRecursion as All}
+use Rattle.std.specs.List.{ContainsAt as Has, AllByRecursion}
 use Rattle.search.specs.Graphs.{Mesh, Graph, Lawful, incident}
 use Rattle.search.specs.Paths.{Distinct, SimplePath}
 
@@ -11,11 +11,11 @@ EndOf m v l = (m.first l ≡ v) ⊎ (m.second l ≡ v)
 -- Each number is above the one before.
 abbrev pub Ascending : List ℕ → Type 0
 Ascending [] = Unit {0}
-Ascending (x ∷ xs) = All (λ y. x < y) xs × Ascending xs
+Ascending (x ∷ xs) = AllByRecursion (λ y. x < y) xs × Ascending xs
 
 -- A row holds links of the cabinet alone, holds them all, and holds them in ascending order, so each once.
 pub record Row (m : Mesh) (v : ℕ) (row : List ℕ) : Type 0 where
-  pub only : All (λ l. (l < m.links) × EndOf m v l) row
+  pub only : AllByRecursion (λ l. (l < m.links) × EndOf m v l) row
   pub every : (l : ℕ) → l < m.links → EndOf m v l → Has row l
   pub ascending : Ascending row
 

@@ -1,6 +1,6 @@
 -- Paths of open steps, and what shows that there is none.
 use Rattle.std.specs.Prelude.{◌≡◌, ℕ, ◌<◌, Bool, true, false, List, [], ◌∷◌, get_or, take, drop, Some, None, Option, ◌≢◌, slice_index_or}
-use Rattle.std.specs.List.{AllByRecursion as All}
+use Rattle.std.specs.List.{AllByRecursion}
 use Rattle.search.specs.Graphs.{Graph, Step, across}
 
 -- The links ls, taken in turn from the cabinet u, are open steps.
@@ -21,7 +21,7 @@ visited g u (l ∷ ls) = u ∷ visited g (across g.mesh u l) ls
 -- No two numbers of the list are equal.
 abbrev pub Distinct : List ℕ → Type 0
 Distinct [] = Unit {0}
-Distinct (x ∷ xs) = All (λ y. x ≢ y) xs × Distinct xs
+Distinct (x ∷ xs) = AllByRecursion (λ y. x ≢ y) xs × Distinct xs
 
 -- A path of open steps from the start to the goal, without a repeated cabinet.
 pub record SimplePath (g : Graph) (start : ℕ) (ls : List ℕ) (goal : ℕ) : Type 0 where

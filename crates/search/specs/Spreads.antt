@@ -1,6 +1,6 @@
 -- What a search keeps while it spreads.
 use Rattle.std.specs.Prelude.{◌≡◌, ℕ, zero, suc, ◌+◌, ◌<◌, ◌≤◌, Bool, true, false, cond, not, ◌⊎◌, List, [], ◌∷◌, ◌++◌, length, count_by, slice_index_or, slice_set}
-use Rattle.std.specs.List.{AllByRecursion as All}
+use Rattle.std.specs.List.{AllByRecursion}
 use Rattle.search.specs.Graphs.{Graph, Step, across}
 use Rattle.search.specs.declared.marks.Mark.{Mark}
 use Rattle.search.specs.declared.marks.Arrival.{Arrival}
@@ -73,7 +73,7 @@ Closed g ms c = (l : ℕ) → Taken g ms c l
 -- The marks are a tree, what waits is reached, and there is place for all that may yet come.
 pub record Spread (g : Graph) (start : ℕ) (ms : List Mark) (qs : List Arrival) : Type 0 where
   pub tree : Tree g start ms
-  pub waiting : All (λ a. (a.cabinet < 64) × ((mark ms a.cabinet).reached ≡ true)) qs
+  pub waiting : AllByRecursion (λ a. (a.cabinet < 64) × ((mark ms a.cabinet).reached ≡ true)) qs
   pub places : unreached ms + length qs ≤ 64
 
 -- The steps from the cabinet `at` are being taken, and those over the links `done` have been.
@@ -82,7 +82,7 @@ pub record Leaving (g : Graph) (start : ℕ) (ms : List Mark) (qs : List Arrival
   pub known : (mark ms at).reached ≡ true
   pub spread : Spread g start ms qs
   pub settled : (c : ℕ) → c < 64 → (mark ms c).reached ≡ true → (Waits qs c ⊎ Closed g ms c) ⊎ (c ≡ at)
-  pub taken : All (Taken g ms at) done
+  pub taken : AllByRecursion (Taken g ms at) done
 
 -- Between two cabinets: each reached cabinet waits, or has been left by all its open steps.
 pub record Resting (g : Graph) (start : ℕ) (ms : List Mark) (qs : List Arrival) : Type 0 where

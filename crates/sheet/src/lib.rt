@@ -3,5 +3,5 @@
 
 pub mod answers;
 mod carried;
-pub mod plan;
+pub mod held;
 pub mod sheet;

@@ -1,11 +1,11 @@
 ghost use Rattle.std.specs.Prelude.{◌≡◌, ◌≤◌, true, length, Some};
 ghost use Rattle.flow.specs.Tests.{is_shared};
 ghost use Rattle.mesh.specs.Links.{capacity_of};
-ghost use Rattle.sheet.specs.declared.plan.Plan.{Plan as Held};
+ghost use Rattle.sheet.specs.declared.held.Plan.{Plan as Held};
 ghost use Rattle.sheet.specs.Routes.{AllRuled};
 ghost use Rattle.sheet.specs.Readings.{EndsInside, EndsApart};
 
-use crate::plan::Plan;
+use crate::held::Plan;
 use mesh::row::Row;
 
 // A sheet: the links of a book and its held plan, if there is one. While it is read, the book cannot change.

@@ -6,7 +6,7 @@ ghost use Rattle.book.specs.Sheets.{reading};
 use crate::ledger::Ledger;
 use flow::pairs::Pairs;
 use mesh::row::Row;
-use sheet::plan::Plan;
+use sheet::held::Plan;
 
 impl Ledger {
     pub(crate) fn links(&self) -> &[Row]

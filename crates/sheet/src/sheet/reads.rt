@@ -3,7 +3,7 @@ ghost use Rattle.flow.specs.Ranges.{cabinets, most_slots};
 ghost use Rattle.flow.specs.Nets.{net};
 ghost use Rattle.flow.specs.Plans.{Shared, Proper};
 ghost use Rattle.mesh.specs.Links.{low_of, high_of, capacity_of};
-ghost use Rattle.sheet.specs.declared.plan.Plan.{Plan as Held};
+ghost use Rattle.sheet.specs.declared.held.Plan.{Plan as Held};
 ghost use Rattle.sheet.specs.Routes.{AllRuled, CarriedBy, RouteTold};
 ghost use Rattle.sheet.specs.Readings.{Answers, Totalled, Carries, Contains, Routed, Stays};
 ghost use Rattle.sheet.specs.Readings.Request.{Total, Share, Member, Route};
@@ -11,7 +11,7 @@ ghost use Rattle.sheet.specs.Sheets.{shown};
 
 use crate::answers::{Shares, Side, Totals};
 use crate::carried::Carried;
-use crate::plan::Plan;
+use crate::held::Plan;
 use crate::sheet::Sheet;
 use flow::nets::net_at;
 use flow::sides;

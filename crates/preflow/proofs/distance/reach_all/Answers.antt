@@ -1,5 +1,5 @@
 use Rattle.std.proofs.Common.{◌≡◌, ℕ, ◌+◌, ◌<◌, ◌≤◌, List, length, get_or, take, sym, ap, ◌∙◌, subst, arith}
-use Rattle.std.specs.List.{AllByRecursion as All}
+use Rattle.std.specs.List.{AllByRecursion}
 use Rattle.std.proofs.lemmas.List.{take_all}
 use Rattle.std.proofs.ByRecursion.{All-weaker}
 use Rattle.search.specs.Graphs.{across, incident}
@@ -30,10 +30,10 @@ loop-link-preserved c =
     let inv = c.loop-link.invariant in
     let e : c.row-link-items.result.now ≡ incident (mesh_of (links_in c.args.network.now)) c.args.at = c.row-link-items.ensures ∙ c.args.network.now.indexed c.args.at c.requires in
     let at = row_link (mesh_of ls) v row i e c.loop-link-test.true in
-    let seen = subst (λ (xs : List ℕ). All (λ k. (k < length ls) × (0 < (get_or ls k blank).limit → high hs (across (mesh_of ls) v k) ≤ m)) (take i xs)) (sym e) inv.2 in (
+    let seen = subst (λ (xs : List ℕ). AllByRecursion (λ k. (k < length ls) × (0 < (get_or ls k blank).limit → high hs (across (mesh_of ls) v k) ≤ m)) (take i xs)) (sym e) inv.2 in (
       c.reach.array_long,
       lowered_then m c.args.heights.now hs after inv.1 c.reach.ensures.lowered,
-      subst (λ (xs : List ℕ). All (λ k. (k < length ls) × (0 < (get_or ls k blank).limit → high after (across (mesh_of ls) v k) ≤ m)) (take (i + 1) xs)) e
+      subst (λ (xs : List ℕ). AllByRecursion (λ k. (k < length ls) × (0 < (get_or ls k blank).limit → high after (across (mesh_of ls) v k) ≤ m)) (take (i + 1) xs)) e
           (row_more ls c.args.network.now.job.now.sound hs after row v m i c.loop-link-test.true c.reach.ensures.lowered seen at.0 at.1 (λ l h. across_in (mesh_of ls) v l (job_lawful c.args.network.now.job.now) h) c.reach.ensures.near),
     )
 
@@ -46,7 +46,7 @@ returns c =
     let inc : List ℕ = incident (mesh_of (links_in c.args.network.now)) c.args.at in
     let e : c.row-link-items.result.now ≡ incident (mesh_of (links_in c.args.network.now)) c.args.at = c.row-link-items.ensures ∙ c.args.network.now.indexed c.args.at c.requires in
     let le : length (incident (mesh_of (links_in c.args.network.now)) c.args.at) ≤ c.loop-link.link-index = omega (arith, ap length e, c.loop-link-test.false) in
-    let all = subst (All (λ k. (k < length ls) × (0 < (get_or ls k blank).limit → high hs (across (mesh_of ls) v k) ≤ m))) (take_all c.loop-link.link-index inc le) c.loop-link.invariant.2 in
+    let all = subst (AllByRecursion (λ k. (k < length ls) × (0 < (get_or ls k blank).limit → high hs (across (mesh_of ls) v k) ≤ m))) (take_all c.loop-link.link-index inc le) c.loop-link.invariant.2 in
     record {
       lowered = c.loop-link.invariant.1;
       into = into_row ls c.args.network.now.job.now.sound hs v m (All-weaker (λ k. (k < length ls) × (0 < (get_or ls k blank).limit → high hs (across (mesh_of ls) v k) ≤ m)) (λ k. 0 < (get_or ls k blank).limit → high hs (across (mesh_of ls) v k) ≤ m) (λ k p. p.1) inc all);

@@ -1,5 +1,5 @@
 use Rattle.std.proofs.Common.{◌≡◌, ◌<◌, ◌≤◌, length, get_or, take}
-use Rattle.std.specs.List.{AllByRecursion as All}
+use Rattle.std.specs.List.{AllByRecursion}
 use Rattle.search.specs.Graphs.{across, incident}
 use Rattle.engine.specs.Arcs.{blank}
 use Rattle.residual.specs.Meshes.{mesh_of}
@@ -12,4 +12,4 @@ abbrev pub invariant-loop-link : goal.invariant-loop-link
 invariant-loop-link l =
     (length l.heights ≡ 64)
     × Lowered l.height l.initial.heights l.heights
-    × All (λ k. (k < length (links_in l.network)) × (0 < (get_or (links_in l.network) k blank).limit → high l.heights (across (mesh_of (links_in l.network)) l.at k) ≤ l.height)) (take l.link-index (incident (mesh_of (links_in l.network)) l.at))
+    × AllByRecursion (λ k. (k < length (links_in l.network)) × (0 < (get_or (links_in l.network) k blank).limit → high l.heights (across (mesh_of (links_in l.network)) l.at k) ≤ l.height)) (take l.link-index (incident (mesh_of (links_in l.network)) l.at))

@@ -1,5 +1,5 @@
 use Rattle.std.proofs.Common.{◌≡◌, ℕ, ◌+◌, ◌≤◌, List, length, get_or, take, ℤ, sym, ap, ◌∙◌, subst, arith}
-use Rattle.std.specs.List.{AllByRecursion as All}
+use Rattle.std.specs.List.{AllByRecursion}
 use Rattle.std.proofs.lemmas.List.{take_all}
 use Rattle.search.specs.Graphs.{incident}
 use Rattle.search.proofs.Meshes.{row_link, incident_complete}
@@ -33,9 +33,9 @@ loop-link-preserved c =
     let step = c.over_link-best.ensures in
     let e : c.row-link-items.result.now ≡ incident (mesh_of (links_in c.args.network.now)) c.args.at = c.row-link-items.ensures ∙ c.args.network.now.indexed c.args.at c.requires.inside in
     let at = row_link (mesh_of ls) v row i e c.loop-link-test.true in
-    let seen = subst (λ (xs : List ℕ). All (Bounds ls fs hs v c.loop-link.best.height) (take i xs)) (sym e) inv.1 in (
+    let seen = subst (λ (xs : List ℕ). AllByRecursion (Bounds ls fs hs v c.loop-link.best.height) (take i xs)) (sym e) inv.1 in (
       omega (arith, scan_le ls fs hs v c.loop-link.best next l step, inv.0),
-      subst (λ (xs : List ℕ). All (Bounds ls fs hs v next.height) (take (i + 1) xs)) e (scan_all ls fs hs v c.loop-link.best next row i c.loop-link-test.true step seen),
+      subst (λ (xs : List ℕ). AllByRecursion (Bounds ls fs hs v next.height) (take (i + 1) xs)) e (scan_all ls fs hs v c.loop-link.best next row i c.loop-link-test.true step seen),
       (λ places most amount. scan_leads ls fs hs v c.loop-link.best next l step at.0 at.1 places most amount (inv.2 places most amount)),
     )
 
@@ -49,7 +49,7 @@ returns c =
     let e : c.row-link-items.result.now ≡ incident (mesh_of (links_in c.args.network.now)) c.args.at = c.row-link-items.ensures ∙ c.args.network.now.indexed c.args.at c.requires.inside in
     let long = ap length e in
     let le : length (incident (mesh_of (links_in c.args.network.now)) c.args.at) ≤ c.loop-link.link-index = omega (arith, long, c.loop-link-test.false) in
-    let all = subst (All (Bounds ls fs hs v c.loop-link.best.height)) (take_all c.loop-link.link-index inc le) c.loop-link.invariant.1 in
+    let all = subst (AllByRecursion (Bounds ls fs hs v c.loop-link.best.height)) (take_all c.loop-link.link-index inc le) c.loop-link.invariant.1 in
     record {
       most = c.loop-link.invariant.0;
       least = λ l step. incident_complete (mesh_of ls) v (Bounds ls fs hs v c.loop-link.best.height) all l step.listed step.touching step;

@@ -2,7 +2,7 @@ use Rattle.std.proofs.Common.{◌≡◌, ℕ, ◌<◌, ◌≤◌, length, get_or
 use Rattle.flow.specs.Ranges.{most_slots}
 use Rattle.flow.proofs.Deciding.{shared_decides}
 use Rattle.mesh.specs.Links.{capacity_of}
-use Rattle.sheet.specs.declared.plan.Plan.{Plan}
+use Rattle.sheet.specs.declared.held.Plan.{Plan}
 use Rattle.sheet.specs.declared.sheet.Sheet.{Sheet}
 use Rattle.sheet.proofs.Nearness.{shares_small}
 use Rattle.sheet.proofs.sheet.Sheet.totals.Goals as goal
