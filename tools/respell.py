@@ -28,7 +28,7 @@ take-map-range_with_len take-set-le
 FACTS = {"All-more", "All-weaker", "Decides-like", "get_or-set_same"}
 
 # Names in camel case, and what stands for each: `mesh_of` is taken by the meshes of two upper crates.
-CAMEL = {"meshOf": "mesh_by", "meshAt": "mesh_at", "lawfulNet": "lawful_net", "oneWay": "one_way", "getD-bumped": "get_or-bumped"}
+CAMEL = {"meshOf": "mesh_by", "meshAt": "mesh_at", "lawfulNet": "lawful_net", "oneWay": "one_way", "getD-bumped": "get_or_bumped"}
 
 DECLARED = re.compile(r"\s*(?:(?:unfoldable|abbrev|pub|record|data|ruleset)\s+)*([A-Za-z_][A-Za-z0-9_'-]*)\s*(?:\{|\(|:)")
 
