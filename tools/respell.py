@@ -83,7 +83,6 @@ def main():
     for path in antt + sorted(glob.glob("crates/*/src/**/*.rt", recursive=True)):
         mark = "--" if path.endswith(".antt") else "//"
         lines = []
-        goals = False
         for line in open(path, encoding="utf-8"):
             text, comment = code(line, mark)
             if re.match(r"use \S*\.(?:Goals|Given)\.\{", text):

@@ -1,5 +1,5 @@
 // Sending more from a feed to a drain over one path.
-ghost use Rattle.std.specs.Prelude.{◌≡◌, ◌<◌, ◌≤◌, length, drop};
+ghost use Rattle.std.specs.Prelude.{◌≡◌, ◌<◌, length, drop};
 ghost use Rattle.flow.specs.Answers.{Within};
 ghost use Rattle.engine.specs.Arcs.{limit_of};
 ghost use Rattle.engine.specs.Totals.{FeasibleFlow};

@@ -1,6 +1,5 @@
 // The grounds over a net.
-ghost use Rattle.std.specs.Prelude.{◌≡◌, ◌<◌, ◌≤◌, length};
-ghost use Rattle.search.specs.Graphs.{incident};
+ghost use Rattle.std.specs.Prelude.{◌<◌};
 ghost use Rattle.grounds.specs.Views.{lawful_net, slotted, one_way};
 
 use crate::net::Net;

@@ -1,5 +1,5 @@
 // Lifting a cabinet.
-ghost use Rattle.std.specs.Prelude.{◌≡◌, ℕ, ◌<◌, ◌≤◌, MatchOption, slice_set};
+ghost use Rattle.std.specs.Prelude.{◌≡◌, ◌<◌, MatchOption, slice_set};
 ghost use Rattle.preflow.specs.Heights.{high, Empty, over_top, Raised, Relabeled};
 
 // A cabinet at the level `level`, if there is one.

@@ -1,5 +1,5 @@
 // The preflow to start from.
-ghost use Rattle.std.specs.Prelude.{◌≡◌, ℕ, ◌<◌, ◌≤◌, [], length, drop, replicate};
+ghost use Rattle.std.specs.Prelude.{◌≡◌, ◌<◌, ◌≤◌, [], drop};
 ghost use Rattle.flow.specs.Ranges.{cabinets};
 ghost use Rattle.flow.specs.Answers.{Placed};
 ghost use Rattle.engine.specs.Arcs.{Limited};

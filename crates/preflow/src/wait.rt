@@ -1,5 +1,5 @@
 // The cabinets that wait for their turn.
-ghost use Rattle.std.specs.Prelude.{◌≡◌, ◌<◌, ◌≤◌, [], ◌∷◌, ◌++◌, length, drop, IfSome};
+ghost use Rattle.std.specs.Prelude.{◌≡◌, ◌<◌, [], ◌∷◌, ◌++◌, length, drop, IfSome};
 ghost use Rattle.search.specs.Queues.{items, room};
 ghost use Rattle.preflow.specs.Waits.{arrived, parted, settled};
 

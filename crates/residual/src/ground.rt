@@ -1,5 +1,5 @@
 // The amounts still free are a ground for the search: a step is open where something is free.
-ghost use Rattle.std.specs.Prelude.{◌≡◌, ◌<◌, ◌≤◌};
+ghost use Rattle.std.specs.Prelude.{◌<◌};
 ghost use Rattle.residual.specs.Grounds.{graph_of, lawful_of};
 
 use crate::residual::Residual;

@@ -1,5 +1,5 @@
 // What a flow leaves free.
-ghost use Rattle.std.specs.Prelude.{◌≡◌, ℕ, ◌<◌, ◌≤◌, length, pos, unsigned_abs};
+ghost use Rattle.std.specs.Prelude.{◌≡◌, ◌<◌, ◌≤◌, length, unsigned_abs};
 ghost use Rattle.flow.specs.Ranges.{most_limit};
 ghost use Rattle.flow.specs.Answers.{Within};
 ghost use Rattle.engine.specs.Arcs.{limit_of};

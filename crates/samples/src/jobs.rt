@@ -1,6 +1,6 @@
 // Jobs of a shape, one after the other.
-ghost use Rattle.std.specs.Prelude.{◌≡◌, ℕ, ◌<◌, ◌≤◌, length, Decides, slice_index_or};
-ghost use Rattle.flow.specs.Ranges.{cabinets, most_fed};
+ghost use Rattle.std.specs.Prelude.{◌≡◌, ℕ, ◌<◌, length, Decides, slice_index_or};
+ghost use Rattle.flow.specs.Ranges.{cabinets};
 ghost use Rattle.flow.specs.Answers.{Placed};
 ghost use Rattle.engine.specs.Arcs.{Sound, Limited, blank};
 ghost use Rattle.samples.specs.Shapes.{Usable, Shaped};

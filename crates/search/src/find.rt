@@ -1,5 +1,5 @@
 // The search, and what it writes into the caller's lists.
-ghost use Rattle.std.specs.Prelude.{◌≡◌, ℕ, ◌<◌, ◌≤◌, length, take, drop, set, slice_set};
+ghost use Rattle.std.specs.Prelude.{◌≡◌, ℕ, ◌<◌, ◌≤◌, length, take, drop, slice_set};
 ghost use Rattle.search.specs.Paths.{Found};
 ghost use Rattle.search.specs.Spreads.{mark, chain, Told};
 

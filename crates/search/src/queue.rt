@@ -1,5 +1,5 @@
 // A first-in-first-out queue over places that the caller lends.
-ghost use Rattle.std.specs.Prelude.{◌≡◌, ℕ, ◌-◌, ◌<◌, ◌≤◌, [], length, ◌==◌, slice_index_or};
+ghost use Rattle.std.specs.Prelude.{◌≡◌, ◌-◌, ◌<◌, ◌≤◌, [], length, ◌==◌, slice_index_or};
 ghost use Rattle.search.specs.Rings.{held, after, behind, Pushed, Written, Popped, Fronted};
 
 // A ring: the items stand from `head` on, and go on from place 0 where they pass the end. The head is a place, if there is one.

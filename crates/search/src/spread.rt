@@ -1,6 +1,6 @@
 // The search spreads from the start, and marks what open steps lead to.
 ghost use Rattle.std.specs.Prelude.{◌≡◌, ◌+◌, ◌<◌, ◌≤◌, true, [], ◌∷◌, ◌++◌, length, replicate, slice_set};
-ghost use Rattle.search.specs.Graphs.{across, incident, touches};
+ghost use Rattle.search.specs.Graphs.{across, incident};
 ghost use Rattle.search.specs.Queues.{items, room};
 ghost use Rattle.search.specs.Spreads.{mark, arrived, blank, come, root, offered, queued, unreached, Spread, Leaving, Resting, Ended};
 

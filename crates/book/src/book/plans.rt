@@ -1,4 +1,3 @@
-ghost use Rattle.std.specs.Prelude.{◌≡◌};
 ghost use Rattle.book.specs.History.{Step, Stays};
 ghost use Rattle.book.specs.History.Call.{Draw, Admit};
 ghost use Rattle.book.specs.Ledgers.{proposed};

@@ -1,4 +1,3 @@
-ghost use Rattle.std.specs.Prelude.{◌≡◌};
 ghost use Rattle.book.specs.History.{Step, Stays, TrialThere};
 ghost use Rattle.book.specs.History.Call.{Begin, Close};
 ghost use Rattle.book.specs.Ledgers.{seen};

@@ -1,6 +1,5 @@
 // One stream's shares in their direction are a ground for the search: a step is open where a share runs along it.
-ghost use Rattle.std.specs.Prelude.{◌≡◌, ℕ, ◌<◌, ◌≤◌, length};
-ghost use Rattle.mesh.specs.Links.{blank, KeepsRule};
+ghost use Rattle.std.specs.Prelude.{◌≡◌, ◌<◌, ◌≤◌, length};
 ghost use Rattle.sheet.specs.Routes.{AllRuled, runs_out};
 ghost use Rattle.sheet.specs.Grounds.{graph_of, lawful_of};
 
