@@ -19,7 +19,6 @@ use Rattle.residual.proofs.Raising.{route_of, least_most, least_some, least_open
 use Rattle.augmenting.specs.declared.pairs.Which.{Which}
 use Rattle.augmenting.specs.declared.pairs.Which.TheVariants.{First, Second}
 use Rattle.augmenting.specs.Pairs.{feed_of, drain_of, sent}
-use Rattle.augmenting.specs.Sending.{unfed}
 
 -- a path that was found, and the least that is free on it, are an augmentation
 pub found_route : (j : Job) (fs : List ℤ) (u w most : ℕ) (path part : List ℕ) (n x : ℕ) → part ≡ take n path → x ≡ least (links_of j) fs u part most → 0 < most → SimplePath (residual (links_of j) fs 1) u (take n path) w → n < 64 → Route (links_of j) fs x u (take n path) w × (0 < x) × (x ≤ most) × (n ≤ 64)
@@ -59,11 +58,12 @@ module _ (most r : Taps ℕ) (x : ℕ) (a : Each ◌≤◌ r most) where
   amounts_sent Second First h g = let b = a.1 in let d = a.2 in (a.0, omega arith, omega arith, a.3)
   amounts_sent Second Second h g = let b = a.1 in let d = a.3 in (a.0, omega arith, a.2, omega arith)
 
-pub unfed_sent : (j : Job) (r : Taps ℕ) (x : ℕ) (i k : Which) → 0 < x → x ≤ feed_of j.most i - feed_of r i → unfed j (sent r i k x) < unfed j r
-unfed_sent j r x First First h g = omega arith
-unfed_sent j r x First Second h g = omega arith
-unfed_sent j r x Second First h g = omega arith
-unfed_sent j r x Second Second h g = omega arith
+-- what is fed grows by what is sent
+pub fed_sent : (r : Taps ℕ) (x : ℕ) (i k : Which) → (sent r i k x).feed1 + (sent r i k x).feed2 ≡ r.feed1 + r.feed2 + x
+fed_sent r x First First = omega arith
+fed_sent r x First Second = omega arith
+fed_sent r x Second First = omega arith
+fed_sent r x Second Second = omega arith
 
 pub feasible_sent : (j : Job) (fs fs' : List ℤ) (r : Taps ℕ) (x : ℕ) (i k : Which) → FeasibleFlow j fs r → Moved (links_of j) fs fs' x (feed_of j.at i) (drain_of j.at k) → x ≤ feed_of j.most i - feed_of r i → x ≤ drain_of j.most k - drain_of r k → FeasibleFlow j fs' (sent r i k x)
 feasible_sent j fs fs' r x i k f m h g =

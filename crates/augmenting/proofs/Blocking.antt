@@ -1,5 +1,5 @@
 -- Sides that block a feed from a drain, and the full side that four of them make.
-use Rattle.std.proofs.Common.{◌≡◌, ℕ, ◌+◌, ◌-◌, ◌<◌, ◌≤◌, min, Bool, true, false, cond, ◌&&◌, ◌||◌, ltb, ◌⊎◌, List, length, get_or, replicate, ℤ, pos, ◌-ℤ◌, neg_ℤ, sym, refl, ap, ◌∙◌, subst, inl, inr, ⊎_elim, arith}
+use Rattle.std.proofs.Common.{◌≡◌, ℕ, ◌-◌, ◌<◌, ◌≤◌, min, Bool, true, false, cond, ◌&&◌, ◌||◌, ltb, ◌⊎◌, List, length, get_or, replicate, ℤ, pos, ◌-ℤ◌, neg_ℤ, sym, refl, ap, ◌∙◌, subst, inl, inr, ⊎_elim, arith}
 use Rattle.std.proofs.lemmas.List.{get_or-replicate, get_or_past, length-replicate}
 use Rattle.std.proofs.lemmas.Bool.{true≢false, false≢true, both_ways, le-leb, ltb-true, ltb-false, eq-eqb, ne_eqb, cases_lt, and_parts, and_from, and_left, and_right, or_cases, or_from, or_left, or_right}
 use Rattle.flow.specs.declared.taps.Taps.{Taps}
@@ -23,8 +23,8 @@ use Rattle.augmenting.specs.declared.pairs.Pair.{Pair}
 use Rattle.augmenting.specs.declared.pairs.Which.{Which}
 use Rattle.augmenting.specs.declared.pairs.Which.TheVariants.{First, Second}
 use Rattle.augmenting.specs.Pairs.{feed_of, drain_of}
-use Rattle.augmenting.specs.Sending.{Closed, Blocked, Still}
-use Rattle.augmenting.specs.Rounds.{Joined, Full}
+use Rattle.augmenting.specs.Sending.{Closed, Blocked}
+use Rattle.augmenting.specs.Sides.{Joined, Full}
 
 none_in : (n v : ℕ) → get_or (replicate n false) v false ≡ false
 none_in n v = ⊎_elim (λ h. get_or-replicate n v false false h) (λ h. past n v h) (cases_lt v n)
@@ -132,15 +132,3 @@ full_joined j fs r a b c d side f pa pb pc pd m =
 -- what blocks a pair blocks it at a flow and amounts that equal these
 pub blocked_at : (j : Job) (fs fs' : List ℤ) (r r' : Taps ℕ) (p : Pair) (S : ℕ → Bool) → fs' ≡ fs → r' ≡ r → Blocked j fs r p S → Blocked j fs' r' p S
 blocked_at j fs fs' r r' p S e q b = subst (λ f. Blocked j f r' p S) (sym e) (subst (λ x. Blocked j fs x p S) (sym q) b)
-
--- four pairs were exhausted in turn and nothing was sent
-pub full_round : (j : Job) (f1 f2 f3 f4 : List ℤ) (r1 r2 r3 r4 : Taps ℕ) (k l m n : ℕ) (a b c d side : List Bool) → k + l + m + n ≤ 0 → FeasibleFlow j f4 r4 → Blocked j f1 r1 (record { from = First; to = First }) (members a) → Still f1 f2 r1 r2 l → Blocked j f2 r2 (record { from = First; to = Second }) (members b) → Still f2 f3 r2 r3 m → Blocked j f3 r3 (record { from = Second; to = First }) (members c) → Still f3 f4 r3 r4 n → Blocked j f4 r4 (record { from = Second; to = Second }) (members d) → Joined a b c d side 64 → Full j r4 side
-full_round j f1 f2 f3 f4 r1 r2 r3 r4 k l m n a b c d side z f ba s2 bb s3 bc s4 bd joined =
-    let e2 = s2 (omega arith) in
-    let e3 = s3 (omega arith) in
-    let e4 = s4 (omega arith) in
-    full_joined j f4 r4 a b c d side f
-    (blocked_at j f1 f4 r1 r4 _ (members a) (e4.0 ∙ e3.0 ∙ e2.0) (e4.1 ∙ e3.1 ∙ e2.1) ba)
-    (blocked_at j f2 f4 r2 r4 _ (members b) (e4.0 ∙ e3.0) (e4.1 ∙ e3.1) bb)
-    (blocked_at j f3 f4 r3 r4 _ (members c) e4.0 e4.1 bc)
-    bd joined

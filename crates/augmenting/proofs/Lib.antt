@@ -1,2 +1,3 @@
 pub mod Amounts
 pub mod Blocking
+pub mod Runs

@@ -1,3 +1,4 @@
 pub mod Pairs
 pub mod Sending
-pub mod Rounds
+pub mod Sides
+pub mod Runs

@@ -4,10 +4,12 @@ use Rattle.flow.specs.declared.taps.Taps.{Taps}
 use Rattle.augmenting.specs.declared.pairs.Which.{Which}
 use Rattle.augmenting.specs.declared.pairs.Which.TheVariants.{First, Second}
 
+-- what a job has for one of its feeds
 abbrev pub feed_of : {T : Type 0} → Taps T → Which → T
 feed_of t First = t.feed1
 feed_of t Second = t.feed2
 
+-- what it has for one of its drains
 abbrev pub drain_of : {T : Type 0} → Taps T → Which → T
 drain_of t First = t.drain1
 drain_of t Second = t.drain2

@@ -1,8 +1,7 @@
 -- Sending more from a feed to a drain.
-use Rattle.std.specs.Prelude.{◌≡◌, ℕ, ◌+◌, ◌-◌, ◌<◌, ◌≤◌, Bool, true, false, List, take, ℤ, Some, None, Option}
+use Rattle.std.specs.Prelude.{◌≡◌, ℕ, ◌+◌, ◌-◌, ◌<◌, ◌≤◌, Bool, true, false, List, take, ℤ, Some, None, Option, Ok, Err, Result}
 use Rattle.flow.specs.declared.taps.Taps.{Taps}
 use Rattle.flow.specs.Ranges.{cabinets}
-use Rattle.flow.specs.Nets.{members}
 use Rattle.search.specs.Graphs.{Step, across}
 use Rattle.search.specs.Paths.{Separates}
 use Rattle.engine.specs.declared.arc.Arc.{Arc}
@@ -19,11 +18,10 @@ abbrev pub Sought : List Arc → List ℤ → (u w most : ℕ) → Option Augmen
 Sought ls fs u w most None path side = Separates (residual ls fs 1) u w side
 Sought ls fs u w most (Some a) path side = Route ls fs a.by u (take a.count path) w × (0 < a.by) × (a.by ≤ most) × (a.count ≤ 64)
 
--- x more was sent from u to w, or nothing since there is no path
-pub record Sent (ls : List Arc) (was fs : List ℤ) (most u w : ℕ) (side : List Bool) (x : ℕ) : Type 0 where
-  pub low : x ≤ most
-  pub some : 0 < x → Moved ls was fs x u w
-  pub none : x ≡ 0 → (fs ≡ was) × Separates (residual ls was 1) u w side
+-- some was sent from u to w, at most `most`; or nothing since there is no path
+abbrev pub Sent : List Arc → (was fs : List ℤ) → (most u w : ℕ) → Result ℕ (List Bool) → Type 0
+Sent ls was fs most u w (Ok x) = (0 < x) × (x ≤ most) × Moved ls was fs x u w
+Sent ls was fs most u w (Err side) = (fs ≡ was) × Separates (residual ls was 1) u w side
 
 -- how much more the feeds could give
 abbrev pub unfed : Job → Taps ℕ → ℕ
@@ -38,12 +36,3 @@ pub record Blocked (j : Job) (fs : List ℤ) (r : Taps ℕ) (p : Pair) (S : ℕ 
   pub holds : feed_of r p.from < feed_of j.most p.from → S (feed_of j.at p.from) ≡ true
   pub lacks : drain_of r p.to < drain_of j.most p.to → S (drain_of j.at p.to) ≡ false
   pub closed : Closed (links_of j) fs S
-
--- more was fed; or nothing changed, and a side blocks the pair
-abbrev pub Turned : Job → (was fs : List ℤ) → (r r' : Taps ℕ) → Pair → List Bool → Bool → Type 0
-Turned j was fs r r' p side true = unfed j r' < unfed j r
-Turned j was fs r r' p side false = (fs ≡ was) × (r' ≡ r) × Blocked j fs r' p (members side)
-
--- nothing changed if the flow was raised 0 times
-abbrev pub Still : (was fs : List ℤ) → (r r' : Taps ℕ) → ℕ → Type 0
-Still was fs r r' raises = raises ≡ 0 → (fs ≡ was) × (r' ≡ r)

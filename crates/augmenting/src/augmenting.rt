@@ -1,25 +1,15 @@
 // Augmenting paths: as long as a path leads from a feed that can give more to a drain that can take more, more is sent over it.
-ghost use Rattle.std.specs.Prelude.{◌≡◌, ℕ, ◌+◌, ◌<◌, ◌≤◌, length, drop, pos, slice_index_or};
+ghost use Rattle.std.specs.Prelude.{◌≡◌, ◌+◌, ◌≤◌, length, drop};
 ghost use Rattle.engine.specs.Jobs.{links_of};
 ghost use Rattle.engine.specs.Totals.{FeasibleFlow};
-ghost use Rattle.augmenting.specs.Rounds.{Full};
+ghost use Rattle.augmenting.specs.Sides.{Full};
 
-use crate::rounds::round;
+use crate::run::Run;
 use engine::engine::Engine;
 use engine::job::Job;
 use flow::taps::Taps;
+use residual::clear::clear;
 use residual::network::Network;
-
-// Gives the first `count` links flow 0.
-fn clear(flow: &mut [i32; 512], count: usize)
-    requires { count ≤ 512 }
-    ensures front { (k : ℕ) → k < count → slice_index_or flow.new k (pos 0) ≡ pos 0 }
-    ensures beyond { drop count flow.new ≡ drop count flow.old }
-{
-    for l in 0..count {
-        flow[l] = 0;
-    }
-}
 
 // The amounts of an answer, and how many times the flow was raised along a path to reach it.
 #[derive(Clone, Copy)]
@@ -29,7 +19,7 @@ pub struct Augmented {
 }
 
 // Answers a job; each raise feeds at least 1.
-pub fn augment(job: &Job, flow: &mut [i32; 512], side: &mut [bool; 64]) -> Augmented
+pub fn augment(job: &Job<'_>, flow: &mut [i32; 512], side: &mut [bool; 64]) -> Augmented
     ensures feasible { FeasibleFlow job.now flow.new result.amounts }
     ensures full { Full job.now result.amounts side.new }
     ensures beyond { drop (length (links_of job.now)) flow.new ≡ drop (length (links_of job.now)) flow.old }
@@ -37,21 +27,27 @@ pub fn augment(job: &Job, flow: &mut [i32; 512], side: &mut [bool; 64]) -> Augme
 {
     let network = Network::of(job);
     clear(flow, job.links().len());
-    let mut amounts = Taps {
-        feed1: 0,
-        feed2: 0,
-        drain1: 0,
-        drain2: 0,
+    let mut run = Run {
+        network: &network,
+        flow: *flow,
+        amounts: Taps {
+            feed1: 0,
+            feed2: 0,
+            drain1: 0,
+            drain2: 0,
+        },
+        raises: 0,
     };
-    let mut raises = 0;
     loop {
-        let more = round(&network, flow, &mut amounts, side);
-        if more == 0 {
-            break;
+        if let Some(found) = run.round() {
+            *flow = run.flow;
+            *side = found;
+            return Augmented {
+                amounts: run.amounts,
+                raises: run.raises,
+            };
         }
-        raises += more;
     }
-    Augmented { amounts, raises }
 }
 
 // The engine keeps nothing from job to job.
@@ -59,7 +55,7 @@ pub fn augment(job: &Job, flow: &mut [i32; 512], side: &mut [bool; 64]) -> Augme
 pub struct Augmenting;
 
 impl Engine for Augmenting {
-    fn solve(&mut self, job: &Job, flow: &mut [i32; 512], side: &mut [bool; 64]) -> Taps<u32> {
+    fn solve(&mut self, job: &Job<'_>, flow: &mut [i32; 512], side: &mut [bool; 64]) -> Taps<u32> {
         augment(job, flow, side).amounts
     }
 }

@@ -3,5 +3,6 @@
 
 pub mod augmenting;
 mod pairs;
-mod rounds;
+mod run;
 mod sending;
+mod sides;

@@ -59,18 +59,14 @@ pub fn add_sent(amounts: Taps<u32>, pair: Pair, by: u32) -> Taps<u32>
     requires drained { drain_of amounts pair.to + by < 2 ^ 32 }
     ensures { result ≡ sent amounts pair.from pair.to by }
 {
-    let (feed1, feed2) = match pair.from {
-        Which::First => (amounts.feed1 + by, amounts.feed2),
-        Which::Second => (amounts.feed1, amounts.feed2 + by),
-    };
-    let (drain1, drain2) = match pair.to {
-        Which::First => (amounts.drain1 + by, amounts.drain2),
-        Which::Second => (amounts.drain1, amounts.drain2 + by),
-    };
-    Taps {
-        feed1,
-        feed2,
-        drain1,
-        drain2,
+    let mut after = amounts;
+    match pair.from {
+        Which::First => after.feed1 += by,
+        Which::Second => after.feed2 += by,
     }
+    match pair.to {
+        Which::First => after.drain1 += by,
+        Which::Second => after.drain2 += by,
+    }
+    after
 }

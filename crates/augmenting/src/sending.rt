@@ -1,13 +1,10 @@
-// Sending more from a feed to a drain over one path.
-ghost use Rattle.std.specs.Prelude.{◌≡◌, ◌<◌, length, drop};
+// Sending more from a cabinet to another over one path.
+ghost use Rattle.std.specs.Prelude.{◌<◌};
 ghost use Rattle.flow.specs.Answers.{Within};
 ghost use Rattle.engine.specs.Arcs.{limit_of};
-ghost use Rattle.engine.specs.Totals.{FeasibleFlow};
 ghost use Rattle.residual.specs.Networks.{links_in};
-ghost use Rattle.augmenting.specs.Sending.{Sought, Sent, Turned};
+ghost use Rattle.augmenting.specs.Sending.{Sought, Sent};
 
-use crate::pairs::*;
-use flow::taps::Taps;
 use residual::network::Network;
 use residual::raise::{least_free, raise};
 use residual::residual::Residual;
@@ -38,70 +35,33 @@ fn seek<'a>(
     ensures { Sought (links_in network.now) flow.now from to most result path.new side.new }
 {
     let ground = Residual { network, flow };
-    match find_path(&ground, from, to, path, side) {
-        Some(count) => {
-            let by = least_free(&ground, from, &path[0..count], most);
-            Some(Augmentation { count, by })
-        }
-        None => None,
-    }
+    let count = find_path(&ground, from, to, path, side)?;
+    let by = least_free(&ground, from, &path[0..count], most);
+    Some(Augmentation { count, by })
 }
 
-// Sends up to `most` more from one cabinet to another over one path, and says how much.
-fn send(
+// Sends up to `most` more from one cabinet to another over one path, and says how much;
+// or answers a side that no open step leaves, where there is no path.
+pub fn send(
     network: &Network<'_>,
     flow: &mut [i32; 512],
     from: u8,
     to: u8,
     most: u32,
-    side: &mut [bool; 64],
-) -> u32
+) -> Result<u32, [bool; 64]>
     requires within { Within limit_of (links_in network.now) flow.old }
     requires from { from < 64 }
     requires to { to < 64 }
     requires some { 0 < most }
-    ensures { Sent (links_in network.now) flow.old flow.new most from to side.new result }
+    ensures { Sent (links_in network.now) flow.old flow.new most from to result }
 {
     let mut path = [0; 64];
-    let Some(Augmentation { count, by }) = seek(&*network, flow, from, to, most, &mut path, side)
-    else {
-        return 0;
-    };
-    raise(network.job, flow, from, &path[0..count], by);
-    by
-}
-
-// Sends more from a feed to a drain over one path, and says whether it could.
-pub fn turn(
-    network: &Network<'_>,
-    flow: &mut [i32; 512],
-    amounts: &mut Taps<u32>,
-    pair: Pair,
-    side: &mut [bool; 64],
-) -> bool
-    requires { FeasibleFlow network.now.job.now flow.old amounts.old }
-    ensures feasible { FeasibleFlow network.now.job.now flow.new amounts.new }
-    ensures beyond { drop (length (links_in network.now)) flow.new ≡ drop (length (links_in network.now)) flow.old }
-    ensures turned { Turned network.now.job.now flow.old flow.new amounts.old amounts.new pair side.new result }
-{
-    let at = network.job.at();
-    let most = network.job.most();
-    let room = room_between(most, *amounts, pair);
-    if room == 0 {
-        *side = [can_give(most, *amounts, pair.from); 64];
-        return false;
+    let mut side = [false; 64];
+    match seek(&*network, &*flow, from, to, most, &mut path, &mut side) {
+        Some(found) => {
+            raise(network.job, flow, from, &path[0..found.count], found.by);
+            Ok(found.by)
+        }
+        None => Err(side),
     }
-    let by = send(
-        network,
-        flow,
-        feed(at, pair.from),
-        drain(at, pair.to),
-        room,
-        side,
-    );
-    if by == 0 {
-        return false;
-    }
-    *amounts = add_sent(*amounts, pair, by);
-    true
 }

@@ -4,21 +4,16 @@
 #![tactic(auto)]
 
 use augmenting::augmenting::augment;
+use engine::arc::Arc;
 use engine::job::Job;
+use flow::pairs::Pairs;
+use flow::ranges::{MOST_FED, MOST_LIMIT, MOST_LINKS};
 use flow::taps::Taps;
 use samples::jobs::{Shape, next_job};
+use samples::mode::Mode;
 use samples::random::Random;
 use std::time::Instant;
 use std::{env, io};
-
-const MOST_FED: u32 = 536_870_912;
-
-#[derive(Clone, Copy, PartialEq, Eq)]
-enum Mode {
-    Totals,
-    Times,
-    Jobs,
-}
 
 // What one solve came to.
 #[derive(Clone, Copy)]
@@ -28,121 +23,110 @@ struct Measured {
     nanos: u128,
 }
 
-// Solves a job `times` times over.
-fn measure(rt: &HostRuntime, job: &Job, times: u32) -> io::Result<Measured> {
-    let mut flow = [0; 512];
-    let mut side = [false; 64];
-    let start = Instant::now(rt)?;
-    for _ in 1..times {
-        augment(job, &mut flow, &mut side);
-    }
-    let answer = augment(job, &mut flow, &mut side);
-    let nanos = start.elapsed(rt)?.as_nanos();
-    Ok(Measured {
-        fed: answer.amounts.feed1 + answer.amounts.feed2,
-        raises: answer.raises,
-        nanos: nanos / times.max(1) as u128,
-    })
+// A run of the benchmark: where it prints, and what.
+#[derive(Clone, Copy)]
+struct Bench<'a> {
+    rt: &'a HostRuntime,
+    mode: Mode,
 }
 
-fn print_job(rt: &HostRuntime, job: &Job) -> io::Result<()> {
-    let at = job.at();
-    let most = job.most();
-    println!(rt; "{} {} {} {}", at.feed1, at.feed2, at.drain1, at.drain2)?;
-    println!(rt;
-        "{} {} {} {}",
-        most.feed1, most.feed2, most.drain1, most.drain2
-    )?;
-    for arc in job.links() {
-        println!(rt; "{} {} {}", arc.tail, arc.head, arc.limit)?;
-    }
-    Ok(())
-}
-
-// Prints what the mode asks of one job, and answers what it is fed.
-fn show(rt: &HostRuntime, mode: Mode, kind: &str, number: u32, job: &Job) -> io::Result<u32> {
-    let times = if mode == Mode::Times { 400 } else { 1 };
-    let done = measure(rt, job, times)?;
-    match mode {
-        Mode::Jobs => {
-            println!(rt; "{kind} {number} {}", job.links().len())?;
-            print_job(rt, job)?;
+impl Bench<'_> {
+    // Solves a job `times` times over.
+    fn measure(self, job: &Job<'_>, times: u32) -> io::Result<Measured> {
+        let mut flow = [0; 512];
+        let mut side = [false; 64];
+        let start = Instant::now(self.rt)?;
+        for _ in 1..times {
+            augment(job, &mut flow, &mut side);
         }
-        Mode::Totals => println!(rt; "{kind} {number}: fed {}, raises {}", done.fed, done.raises)?,
-        Mode::Times => println!(rt;
-            "{kind} {number} {} {} {}",
-            done.fed, done.raises, done.nanos
-        )?,
+        let answer = augment(job, &mut flow, &mut side);
+        let nanos = start.elapsed(self.rt)?.as_nanos();
+        Ok(Measured {
+            fed: answer.amounts.feed1 + answer.amounts.feed2,
+            raises: answer.raises,
+            nanos: nanos / times.max(1) as u128,
+        })
     }
-    Ok(done.fed)
-}
 
-// The job over the same links for stream 1 up to `first` and stream 2 up to `second`, the latter the other way round if turned.
-fn half_job(job: &Job, turned: bool, first: u32, second: u32) -> Option<Job> {
-    let at = job.at();
-    let ends = if turned {
-        Taps {
-            feed1: at.feed1,
-            feed2: at.drain2,
-            drain1: at.drain1,
-            drain2: at.feed2,
+    // Prints what the mode asks of one job, and answers what it is fed.
+    fn show(self, kind: &str, number: u32, job: &Job<'_>) -> io::Result<u32> {
+        let times = if self.mode == Mode::Times { 400 } else { 1 };
+        let Measured { fed, raises, nanos } = self.measure(job, times)?;
+        match self.mode {
+            Mode::Jobs => {
+                println!(self.rt; "{kind} {number} {}", job.links().len())?;
+                print!(self.rt; "{job}")?;
+            }
+            Mode::Totals => println!(self.rt; "{kind} {number}: fed {fed}, raises {raises}")?,
+            Mode::Times => println!(self.rt; "{kind} {number} {fed} {raises} {nanos}")?,
         }
-    } else {
-        at
-    };
-    let most = Taps {
-        feed1: first,
-        feed2: second,
-        drain1: first,
-        drain2: second,
-    };
-    Job::new(job.links(), ends, most)
-}
+        Ok(fed)
+    }
 
-// The five jobs of a draw, in their order.
-fn draw(rt: &HostRuntime, mode: Mode, number: u32, job: &Job) -> io::Result<()> {
-    let mut fed = [0u32; 5];
-    for step in 0..5usize {
-        let first = if step == 0 { MOST_FED } else { fed[0] };
-        let rest = fed[1].min(fed[2]).saturating_sub(fed[0]);
-        let second = match step {
-            0 => 0,
-            1 | 2 => MOST_FED,
-            _ => rest,
+    // Shows the job over these links of stream 1 up to `x` and stream 2 up to `y`, and answers what it is fed;
+    // 0 where a number is out of range.
+    fn show_both(
+        self,
+        number: u32,
+        links: &[Arc],
+        pairs: Pairs,
+        x: u32,
+        y: u32,
+    ) -> io::Result<u32> {
+        match Job::new(links, pairs.ends(), Taps::both(x, y)) {
+            Some(job) => self.show("draw", number, &job),
+            None => Ok(0),
+        }
+    }
+
+    // The five jobs of a draw over the links and ends of a job, in their order.
+    fn draw(self, number: u32, job: &Job<'_>) -> io::Result<()> {
+        let links = job.links();
+        let Taps {
+            feed1,
+            feed2,
+            drain1,
+            drain2,
+        } = job.at();
+        let pairs = Pairs {
+            source1: feed1,
+            goal1: drain1,
+            source2: feed2,
+            goal2: drain2,
         };
-        if let Some(half) = half_job(job, step == 2 || step == 4, first, second) {
-            fed[step] = show(rt, mode, "draw", number, &half)?;
-        }
+        let alone = self.show_both(number, links, pairs, MOST_FED, 0)?;
+        let ahead = self.show_both(number, links, pairs, alone, MOST_FED)?;
+        let behind = self.show_both(number, links, pairs.turned(), alone, MOST_FED)?;
+        let rest = ahead.min(behind).saturating_sub(alone);
+        self.show_both(number, links, pairs, alone, rest)?;
+        self.show_both(number, links, pairs.turned(), alone, rest)?;
+        Ok(())
     }
-    Ok(())
 }
 
+// What the last argument that names a mode asks for.
 fn mode_of(rt: &HostRuntime) -> io::Result<Mode> {
-    let mut mode = Mode::Totals;
-    for word in env::args(rt)? {
-        if word.as_str() == "times" {
-            mode = Mode::Times;
-        }
-        if word.as_str() == "jobs" {
-            mode = Mode::Jobs;
-        }
-    }
-    Ok(mode)
+    let named = env::args(rt)?.filter_map(|word| Mode::try_from(word.as_str()).ok());
+    Ok(named.last().unwrap_or(Mode::Totals))
 }
 
 fn main(rt: HostRuntime) -> io::Result<()> {
-    let mode = mode_of(&rt)?;
+    let bench = Bench {
+        rt: &rt,
+        mode: mode_of(&rt)?,
+    };
     let shape = Shape {
-        links: 512,
+        links: MOST_LINKS,
         cabinets: 64,
-        limits: 524_288,
+        limits: MOST_LIMIT,
         fed: MOST_FED,
     };
     let mut random = Random { state: 1 };
+    let mut room = [Arc::default(); 512];
     for number in 0..8u32 {
-        if let Some(job) = next_job(&mut random, shape) {
-            show(&rt, mode, "job", number, &job)?;
-            draw(&rt, mode, number, &job)?;
+        if let Some(job) = next_job(&mut random, shape, &mut room) {
+            bench.show("job", number, &job)?;
+            bench.draw(number, &job)?;
         }
     }
     Ok(())

@@ -4,20 +4,16 @@
 #![tactic(auto)]
 
 use augmenting::augmenting::Augmenting;
+use engine::arc::Arc;
 use engine::engine::Engine;
 use engine::job::Job;
+use flow::ranges::{MOST_FED, MOST_LIMIT};
 use preflow::preflow::Preflow;
 use samples::jobs::{Shape, next_job};
+use samples::mode::Mode;
 use samples::random::Random;
 use std::time::Instant;
 use std::{env, io};
-
-#[derive(Clone, Copy, PartialEq, Eq)]
-enum Mode {
-    Totals,
-    Times,
-    Jobs,
-}
 
 // What an engine fed, and the nanoseconds of one solve.
 #[derive(Clone, Copy)]
@@ -27,7 +23,7 @@ struct Measured {
 }
 
 // Lets an engine solve a job ten times over.
-fn ten<E: Engine>(rt: &HostRuntime, engine: &mut E, job: &Job) -> io::Result<Measured> {
+fn ten<E: Engine>(rt: &HostRuntime, engine: &mut E, job: &Job<'_>) -> io::Result<Measured> {
     let mut flow = [0; 512];
     let mut side = [false; 64];
     let start = Instant::now(rt)?;
@@ -46,7 +42,7 @@ fn ten<E: Engine>(rt: &HostRuntime, engine: &mut E, job: &Job) -> io::Result<Mea
 fn measure<E: Engine>(
     rt: &HostRuntime,
     engine: &mut E,
-    job: &Job,
+    job: &Job<'_>,
     rounds: u32,
 ) -> io::Result<Measured> {
     let mut best = ten(rt, engine, job)?;
@@ -59,26 +55,12 @@ fn measure<E: Engine>(
     Ok(best)
 }
 
-fn print_job(rt: &HostRuntime, job: &Job) -> io::Result<()> {
-    let at = job.at();
-    let most = job.most();
-    println!(rt; "{} {} {} {}", at.feed1, at.feed2, at.drain1, at.drain2)?;
-    println!(rt;
-        "{} {} {} {}",
-        most.feed1, most.feed2, most.drain1, most.drain2
-    )?;
-    for arc in job.links() {
-        println!(rt; "{} {} {}", arc.tail, arc.head, arc.limit)?;
-    }
-    Ok(())
-}
-
 // Prints what the mode asks of one job.
-fn show(rt: &HostRuntime, mode: Mode, number: u32, job: &Job) -> io::Result<()> {
+fn show(rt: &HostRuntime, mode: Mode, number: u32, job: &Job<'_>) -> io::Result<()> {
     let links = job.links().len();
     if mode == Mode::Jobs {
         println!(rt; "{links} {number} {links}")?;
-        return print_job(rt, job);
+        return print!(rt; "{job}");
     }
     let rounds = if mode == Mode::Times { 100 } else { 0 };
     let paths = measure(rt, &mut Augmenting, job, rounds)?;
@@ -95,31 +77,25 @@ fn show(rt: &HostRuntime, mode: Mode, number: u32, job: &Job) -> io::Result<()> 
     )
 }
 
+// What the last argument that names a mode asks for.
 fn mode_of(rt: &HostRuntime) -> io::Result<Mode> {
-    let mut mode = Mode::Totals;
-    for word in env::args(rt)? {
-        if word.as_str() == "times" {
-            mode = Mode::Times;
-        }
-        if word.as_str() == "jobs" {
-            mode = Mode::Jobs;
-        }
-    }
-    Ok(mode)
+    let named = env::args(rt)?.filter_map(|word| Mode::try_from(word.as_str()).ok());
+    Ok(named.last().unwrap_or(Mode::Totals))
 }
 
 fn main(rt: HostRuntime) -> io::Result<()> {
     let mode = mode_of(&rt)?;
     let mut random = Random { state: 1 };
+    let mut room = [Arc::default(); 512];
     for links in [64, 128, 256, 512] {
         let shape = Shape {
             links,
             cabinets: 64,
-            limits: 524_288,
-            fed: 536_870_912,
+            limits: MOST_LIMIT,
+            fed: MOST_FED,
         };
         for number in 0..8u32 {
-            if let Some(job) = next_job(&mut random, shape) {
+            if let Some(job) = next_job(&mut random, shape, &mut room) {
                 show(&rt, mode, number, &job)?;
             }
         }

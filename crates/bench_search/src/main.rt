@@ -2,17 +2,13 @@
 // Without an argument it says what the searches answered; with one it repeats them and also says how long each took.
 #![tactic(auto)]
 
-ghost use Rattle.search.specs.Graphs.{Lawful};
-ghost use Rattle.search.specs.Incidences.{IndexOf};
-ghost use Rattle.grounds.specs.Nets.{mesh_at};
-
 use grounds::grounds::Slotted;
-use grounds::net::{Net, is_mesh};
+use grounds::mesh::is_mesh;
 use search::find::find_path;
-use search::incidence::Incidence;
 use search::links::Ends;
+use search::net::Net;
 use std::time::Instant;
-use std::{env, io};
+use std::{array, env, io};
 
 // The link with this number, of those that join `cabinets` cabinets evenly.
 fn link(number: u16, cabinets: u8) -> Ends {
@@ -25,74 +21,47 @@ fn link(number: u16, cabinets: u8) -> Ends {
     }
 }
 
-// How many cabinets the search from 0 to 63 reached.
-fn reached(ground: &Slotted) -> u64 {
+// How many cabinets the search from 0 to 63 reached, where it found no path.
+fn reached(ground: &Slotted) -> Option<u64> {
     let mut path = [0u16; 64];
     let mut side = [false; 64];
-    if find_path(ground, 0, 63, &mut path, &mut side) != None {
-        return 64;
+    match find_path(ground, 0, 63, &mut path, &mut side) {
+        Some(_) => None,
+        None => Some(side.iter().filter(|inside| **inside).count() as u64),
     }
-    let mut total = 0u64;
-    for inside in side {
-        total = total.wrapping_add(inside as u64);
-    }
-    total
 }
 
 // The same, added up over `times` searches.
-fn reached_in_all(ground: &Slotted, times: u32) -> u64 {
-    let mut total = 0u64;
-    for _ in 0..times {
-        total = total.wrapping_add(reached(ground));
-    }
-    total
+fn reached_in_all(ground: &Slotted, times: u32) -> Option<u64> {
+    (0..times).try_fold(0u64, |total, _| Some(total.wrapping_add(reached(ground)?)))
 }
 
-fn measure<'a>(
-    rt: &HostRuntime,
-    links: &'a [Ends],
-    index: &'a Incidence,
-    slots: &'a [u32],
-    times: u32,
-) -> io::Result<()>
-    requires lawful { Lawful (mesh_at links.now) }
-    requires indexed { IndexOf index.now (mesh_at links.now) }
-{
-    let ground = Slotted {
-        net: Net::new(links, index),
-        slots,
-    };
+fn measure(rt: &HostRuntime, ground: &Slotted, times: u32) -> io::Result<()> {
     let start = Instant::now(rt)?;
-    let total = reached_in_all(&ground, times);
+    let total = reached_in_all(ground, times);
     let nanos = start.elapsed(rt)?.as_nanos();
     if times > 1 {
         let each = nanos / times as u128;
         println!(rt; "    {each} ns a search")?;
     }
-    let times = times.max(1) as u64;
-    println!(rt; "    reached {}", total / times)
-}
-
-// Fills the list with the links.
-fn draw(links: &mut [Ends; 512], cabinets: u8) {
-    for number in 0..512u16 {
-        links[number as usize] = link(number, cabinets);
+    match total {
+        Some(total) => println!(rt; "    reached {}", total / times.max(1) as u64),
+        None => println!(rt; "    found a path"),
     }
 }
 
 fn run(rt: &HostRuntime, count: u16, cabinets: u8, times: u32) -> io::Result<()> {
-    let mut links = [Ends {
-        first: 0,
-        second: 1,
-    }; 512];
-    draw(&mut links, cabinets);
-    let links = &links[0..count.min(512) as usize];
+    let links: [Ends; 512] = array::from_fn(|number| link(number as u16, cabinets));
+    let links = &links[..count.min(512) as usize];
     println!(rt; "{count} links among {cabinets} cabinets")?;
     if !is_mesh(links) {
         return println!(rt; "    is no mesh");
     }
-    let index = Incidence::of(links);
-    measure(rt, links, &index, &[1; 512], times)
+    let ground = Slotted {
+        net: Net::of(links),
+        slots: &[1; 512],
+    };
+    measure(rt, &ground, times)
 }
 
 fn main(rt: HostRuntime) -> io::Result<()> {

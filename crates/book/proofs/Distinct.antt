@@ -12,7 +12,6 @@ use Rattle.book.specs.Books.{NoPairTwice}
 
 -- where a search for a pair finds nothing, no row has that pair
 unlinked : (rows : List Row) (a b : ℕ) → linked rows a b ≡ false → (k : ℕ) (d : Row) → k < length rows → (get_or rows k d).low ≡ a → (get_or rows k d).high ≡ b → ⊥
-unfolding linked
 unlinked [] a b e k d q x y = omega arith
 unlinked (r ∷ rows) a b e zero d q x y = grind (arith, nat_tests)
 unlinked (r ∷ rows) a b e (suc k) d q x y =

@@ -1,16 +1,17 @@
 -- The state of a ledger after its share lists were filled.
-use Rattle.std.proofs.Common.{◌≡◌, ℕ, ◌≤◌, Bool, not, List, ◌++◌, length, take, drop, ℤ, is_some, Some, None, Ok, Option, sym, refl, ap, ◌∙◌, subst, arith, take_all}
+use Rattle.std.proofs.Common.{◌≡◌, ℕ, ◌≤◌, Bool, not, List, ◌++◌, length, take, drop, ℤ, is_some, Some, None, Ok, Err, Option, sym, refl, ap, ◌∙◌, subst, arith, take_all}
 use lib.Seq.{take-append-le}
 use Rattle.std.specs.Option.{option_map}
 use Rattle.flow.specs.declared.pairs.Pairs.{Pairs}
 use Rattle.plan.specs.declared.sides.Sides.{Sides}
 use Rattle.plan.specs.declared.flaw.Flaw.{Flaw}
+use Rattle.plan.specs.Judging.{verdict}
 use Rattle.plan.proofs.Admission.{judged_held}
 use Rattle.mesh.specs.declared.row.Row.{Row}
 use Rattle.mesh.specs.declared.fault.Fault.TheVariants.{Unnamed, Proposal}
 use Rattle.mesh.specs.Faults.{refuse_if}
 use Rattle.mesh.specs.Links.{low_of, high_of, capacity_of}
-use Rattle.book.specs.History.{State, state, Step, admission}
+use Rattle.book.specs.History.{State, state, Step, refusal, admission}
 use Rattle.book.specs.History.Call.{Draw, Admit}
 use Rattle.book.specs.Plans.{Plan, DrawnPlan, held_plan, flaw_of}
 
@@ -40,6 +41,21 @@ drawn_step s p rows one two xs ys sides e er ex ey d = (
 
 same_plan : (h : Plan) (a b : List ℤ) (c d : List Bool) → a ≡ h.one → b ≡ h.two → c ≡ h.cut → d ≡ h.first → ◌≡◌ {A = Plan} (record { one = a; two = b; cut = c; first = d }) h
 same_plan h a b c d ea eb ec ed = λ i. record { one = ea i; two = eb i; cut = ec i; first = ed i }
+
+-- what a judge's answer tells of the flaws
+pub flawless : (o : Option Flaw) → verdict o ≡ Ok tt → o ≡ None
+flawless None e = refl
+flawless (Some flaw) e = let z : ◌≡◌ {A = ℕ} 0 1 = cc in absurd (omega arith)
+
+flawed : (o : Option Flaw) (flaw : Flaw) → verdict o ≡ Err flaw → o ≡ Some flaw
+flawed None flaw e = let z : ◌≡◌ {A = ℕ} 0 1 = cc in absurd (omega arith)
+flawed (Some f) flaw e = cc
+
+-- a plan with a flaw is refused for it
+pub refused_for : (s : State) (p : Pairs) (rows : List Row) (h : Plan) (flaw : Flaw) → s.pairs ≡ Some p → rows ≡ s.rows → verdict (flaw_of rows p h) ≡ Err flaw → refusal s (Admit h) ≡ Some (Proposal flaw)
+refused_for s p rows h flaw e er j =
+    let jj : verdict (flaw_of s.rows p h) ≡ Err flaw = subst (λ (r : List Row). verdict (flaw_of r p h) ≡ Err flaw) er j in
+    ap (λ (o : Option Pairs). admission s.rows o h) e ∙ ap (λ (o : Option Flaw). option_map Proposal o) (flawed _ flaw jj)
 
 -- an admitted plan is held: what stands at the front of the two lists is the proposal
 pub admitted_step : (s : State) (p : Pairs) (rows : List Row) (h : Plan) (xs ys ws vs us ts : List ℤ) (sides : Sides) → s.pairs ≡ Some p → rows ≡ s.rows → flaw_of rows p h ≡ None → xs ≡ ws → ys ≡ vs → ws ≡ h.one ++ drop (length h.one) us → vs ≡ h.two ++ drop (length h.two) ts → sides.cut ≡ h.cut → sides.first ≡ h.first → Step s (Admit h) (Ok tt) (state s.rows s.pairs s.trial (held_plan (length s.rows) xs ys (Some sides)))

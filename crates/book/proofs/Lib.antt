@@ -1,6 +1,5 @@
 mod Changes
 mod Distinct
-mod Linking
 mod Pasts
 mod Holding
 mod Laws

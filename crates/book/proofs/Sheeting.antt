@@ -3,13 +3,14 @@ use Rattle.std.proofs.Common.{◌≡◌, ℕ, ◌+◌, ◌≤◌, List, length, 
 use mathlib.Core.Logic.{∥∥₁_elim}
 use native.Mathlib.Bridge.{le_prop}
 use Rattle.flow.specs.declared.pairs.Pairs.{Pairs}
-use Rattle.flow.specs.Plans.{Proper, Shared}
+use Rattle.flow.specs.Plans.{Proper}
 use Rattle.flow.specs.Ranges.{cabinets}
 use Rattle.plan.specs.declared.sides.Sides.{Sides}
 use Rattle.mesh.specs.declared.row.Row.{Row}
 use Rattle.mesh.specs.Links.{blank, capacity_of}
 use Rattle.sheet.specs.Routes.{AllRuled}
-use Rattle.sheet.specs.declared.held.Plan.{Plan as Lent}
+use Rattle.plan.specs.declared.listed.Plan.{Plan as Lent}
+use Rattle.sheet.specs.Plans.{Fits}
 use Rattle.sheet.specs.Readings as readings
 use Rattle.sheet.specs.Sheets.{plan_shown}
 use Rattle.book.specs.History.{State, Past}
@@ -28,10 +29,7 @@ from_parts (Some p) (Some j) q e = (p, j, refl, refl, same_some q _ e)
 pub record Asks (rows : List Row) (o : Option Lent) : Type 0 where
   pub few : length rows ≤ 512
   pub ruled : AllRuled rows
-  pub ones : (l : Lent) → o ≡ Some l → length l.one.now ≡ length rows
-  pub twos : (l : Lent) → o ≡ Some l → length l.two.now ≡ length rows
-  pub shared : (l : Lent) → o ≡ Some l → Shared capacity_of rows l.one.now l.two.now
-  pub proper : (l : Lent) → o ≡ Some l → Proper cabinets l.pairs
+  pub fits : (l : Lent) → o ≡ Some l → Fits rows l
 
 -- the shares of a plan are as many as the links
 abbrev pub Long : State → Type 0
@@ -58,14 +56,17 @@ module _ (s : State) (past : ∥ Past s ∥₁) (long : Long s) (o : Option Lent
   asks_here = record {
     few = (sound s past).few;
     ruled = λ k q. (sound s past).ruled k blank q;
-    ones = λ l q. let w = lent l q in ap length w.5 ∙ (long w.1 w.3).0;
-    twos = λ l q. let w = lent l q in ap length w.6 ∙ (long w.1 w.3).1;
-    shared = λ l q k d lt.
+    fits = λ l q.
         let w = lent l q in
-        let held : nat_abs (get_or w.1.one k (pos 0)) + nat_abs (get_or w.1.two k (pos 0)) ≤ capacity_of (get_or s.rows k d) = ∥∥₁_elim past le_prop (λ v. ((every_past s v).0 w.1 w.3).2.feasible.shared k d lt) in
-        subst (λ (f : List ℤ). nat_abs (get_or f k (pos 0)) + nat_abs (get_or l.two.now k (pos 0)) ≤ capacity_of (get_or s.rows k d)) (sym w.5)
-        (subst (λ (g : List ℤ). nat_abs (get_or w.1.one k (pos 0)) + nat_abs (get_or g k (pos 0)) ≤ capacity_of (get_or s.rows k d)) (sym w.6) held);
-    proper = λ l q. let w = lent l q in subst (Proper cabinets) (sym w.4) ((sound s past).proper w.0 w.2);
+        record {
+          ones = ap length w.5 ∙ (long w.1 w.3).0;
+          twos = ap length w.6 ∙ (long w.1 w.3).1;
+          shared = λ k d lt.
+              let held : nat_abs (get_or w.1.one k (pos 0)) + nat_abs (get_or w.1.two k (pos 0)) ≤ capacity_of (get_or s.rows k d) = ∥∥₁_elim past le_prop (λ v. ((every_past s v).0 w.1 w.3).2.feasible.shared k d lt) in
+              subst (λ (f : List ℤ). nat_abs (get_or f k (pos 0)) + nat_abs (get_or l.two.now k (pos 0)) ≤ capacity_of (get_or s.rows k d)) (sym w.5)
+              (subst (λ (g : List ℤ). nat_abs (get_or w.1.one k (pos 0)) + nat_abs (get_or g k (pos 0)) ≤ capacity_of (get_or s.rows k d)) (sym w.6) held);
+          proper = subst (Proper cabinets) (sym w.4) ((sound s past).proper w.0 w.2);
+        };
   }
 
   pub asks : (rows : List Row) → rows ≡ s.rows → Asks rows o

@@ -1,6 +1,6 @@
 -- What follows from the calls alone: the state after each, what a call is refused for, and what it does.
-use Rattle.std.specs.Prelude.{◌≡◌, ℕ, ◌+◌, ◌-◌, ◌<◌, min, max, Bool, true, false, not, ◌&&◌, ◌||◌, List, [], ◌∷◌, ◌++◌, length, is_some, Some, None, Ok, Err, Option, Result, ◌==◌, nat_le, nat_lt, slice_index_or, slice_set}
-use Rattle.std.specs.List.{remove}
+use Rattle.std.specs.Prelude.{◌≡◌, ℕ, ◌+◌, ◌-◌, ◌<◌, min, max, Bool, true, not, ◌&&◌, ◌||◌, List, [], ◌∷◌, ◌++◌, length, is_some, Some, None, Ok, Err, Option, Result, ◌==◌, nat_le, nat_lt, slice_index_or, slice_set}
+use Rattle.std.specs.List.{list_any, remove}
 use Rattle.std.specs.Option.{option_map}
 use Rattle.flow.specs.declared.pairs.Pairs.{Pairs}
 use Rattle.mesh.specs.declared.row.Row.{Row}
@@ -45,9 +45,8 @@ abbrev pub resized : List Row → ℕ → ℕ → List Row
 resized rows l n = slice_set rows l (record { low = (slice_index_or rows l blank).low; high = (slice_index_or rows l blank).high; slots = n })
 
 -- whether some link joins these two cabinets
-unfoldable pub linked : List Row → ℕ → ℕ → Bool
-linked [] low high = false
-linked (r ∷ rs) low high = (r.low == low && r.high == high) || linked rs low high
+abbrev pub linked : List Row → ℕ → ℕ → Bool
+linked rows low high = list_any (λ r. r.low == low && r.high == high) rows
 
 -- whether an end of a stream is no cabinet
 abbrev pub off_mesh : Pairs → Bool

@@ -6,13 +6,9 @@ use Rattle.book.specs.declared.trial.Receipt.{Receipt}
 use Rattle.book.specs.declared.trial.Refused.{Refused}
 use Rattle.book.specs.History.{State, slots_of}
 
--- the receipt with the numbers of a trial
-abbrev pub receipt_of : Trial → Receipt
-receipt_of t = record { link = t.link; slots = t.slots }
-
 -- the trial that a receipt tells of
 abbrev pub trial_of : Receipt → Trial
-trial_of r = record { link = r.link; slots = r.slots }
+trial_of r = r.trial
 
 -- begin's answer as that of a call
 abbrev pub begun : Result Receipt Fault → Result (Unit {0}) Fault
@@ -26,7 +22,7 @@ closed (Err refused) = Err refused.fault
 
 -- the receipt of an accepted begin has the link and its former slots
 abbrev pub Received : ℕ → State → Result Receipt Fault → Type 0
-Received l s (Ok receipt) = receipt ≡ record { link = l; slots = slots_of s.rows l }
+Received l s (Ok receipt) = trial_of receipt ≡ record { link = l; slots = slots_of s.rows l }
 Received l s (Err fault) = Unit {0}
 
 -- a refused close hands the receipt back

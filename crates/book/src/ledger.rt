@@ -7,6 +7,7 @@ use plan::sides::Sides;
 
 // What a book holds. A held plan has its shares at the front of `one` and `two`,
 // which are as long as a book may have links. All memory is taken when it is opened.
+// Kept: the shares are two lists beside the links, in the memory that opening takes; engines and proposals give each stream's shares as a list.
 #[derive(Drop)]
 pub(crate) struct Ledger {
     rows: Vec<Row>,

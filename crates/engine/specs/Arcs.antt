@@ -9,12 +9,15 @@ use Rattle.engine.specs.declared.arc.Arc.{Arc}
 abbrev pub blank : Arc
 blank = record { tail = 0; head = 0; limit = 0 }
 
+-- the cabinet that a link leads from
 abbrev pub tail_of : Arc → ℕ
 tail_of l = l.tail
 
+-- the cabinet that it leads to
 abbrev pub head_of : Arc → ℕ
 head_of l = l.head
 
+-- how much it can carry, either way
 abbrev pub limit_of : Arc → ℕ
 limit_of l = l.limit
 

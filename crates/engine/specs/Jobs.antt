@@ -1,5 +1,5 @@
 -- Jobs, by the struct.
-use Rattle.std.specs.Prelude.{◌≡◌, ℕ, List, take, Some, None, Option}
+use Rattle.std.specs.Prelude.{◌≡◌, ℕ, List, Some, None, Option}
 use Rattle.flow.specs.declared.taps.Taps.{Taps}
 use Rattle.engine.specs.declared.arc.Arc.{Arc}
 use Rattle.engine.specs.declared.job.Job.{Job}
@@ -7,7 +7,7 @@ use Rattle.engine.specs.Arcs.{Fits}
 
 -- the links of a job in order
 abbrev pub links_of : Job → List Arc
-links_of j = take j.count j.arcs
+links_of j = j.links.now
 
 -- a job of these numbers was made, or none since one of them is out of range
 abbrev pub Made : List Arc → (at most : Taps ℕ) → Option Job → Type 0

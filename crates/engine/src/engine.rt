@@ -14,7 +14,7 @@ pub trait Engine {
     // No flow exceeds its link's limit in size; each amount is at most its limit; in every cabinet
     // outflow minus inflow is what is fed there minus what is drained there; the total fed is the
     // cost of the side; the places of `flow` beyond the links are untouched.
-    fn solve(&mut self, job: &Job, flow: &mut [i32; 512], side: &mut [bool; 64]) -> Taps<u32>
+    fn solve(&mut self, job: &Job<'_>, flow: &mut [i32; 512], side: &mut [bool; 64]) -> Taps<u32>
         ensures within { Within limit_of (links_of job.now) flow.new }
         ensures amounts { Each ◌≤◌ result job.now.most }
         ensures balanced { Balanced tail_of head_of cabinets (links_of job.now) job.now.at result flow.new }

@@ -16,7 +16,7 @@ fn total(amounts: Taps<u32>) -> u32
 }
 
 // The total that an engine feeds: no other flow within the job's limits is fed more.
-pub fn greatest_total<E: Engine>(engine: &mut E, job: &Job) -> u32
+pub fn greatest_total<E: Engine>(engine: &mut E, job: &Job<'_>) -> u32
     ensures { Greatest job.now result }
 {
     let mut flow = [0; 512];
@@ -26,8 +26,6 @@ pub fn greatest_total<E: Engine>(engine: &mut E, job: &Job) -> u32
 }
 
 // A job has only one greatest total, so all engines feed the same.
-pub fn greatest_is_one() -> u8
+pub fn greatest_is_one()
     ensures { OneGreatest }
-{
-    0
-}
+{}

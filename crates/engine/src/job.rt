@@ -1,5 +1,5 @@
 // A job for an engine: links with limits, and two feeds and two drains, each a cabinet with a limit.
-ghost use Rattle.std.specs.Prelude.{◌≤◌, take};
+ghost use Rattle.std.specs.Prelude.{◌≤◌, length};
 ghost use Rattle.flow.specs.Ranges.{cabinets, most_links};
 ghost use Rattle.flow.specs.Answers.{Placed};
 ghost use Rattle.engine.specs.Arcs.{AllSound, Limited};
@@ -9,15 +9,14 @@ use flow::taps::Taps;
 
 mod calls;
 
-// The links are the first `count` of `arcs`. The cabinets may coincide, and so may the ends of several links.
+// The links are lent to it. The cabinets may coincide, and so may the ends of several links.
 #[derive(Clone, Copy)]
-pub struct Job {
-    arcs: [Arc; 512],
-    count: usize,
+pub struct Job<'a> {
+    links: &'a [Arc],
     at: Taps<u8>,
     most: Taps<u32>,
-    ghost few: { count ≤ most_links },
-    ghost sound: { AllSound (take count arcs) },
+    ghost few: { length links.now ≤ most_links },
+    ghost sound: { AllSound links.now },
     ghost placed: { Placed cabinets at },
     ghost limited: { Limited most },
 }

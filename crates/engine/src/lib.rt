@@ -6,4 +6,5 @@ pub mod engine;
 pub mod greatest;
 pub mod job;
 pub mod joins;
+mod print;
 pub mod trim;

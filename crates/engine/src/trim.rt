@@ -2,7 +2,6 @@
 ghost use Rattle.std.specs.Prelude.{◌≡◌, ◌+◌, ◌<◌, ◌≤◌, ◌++◌, length, take, drop, pos, if◌then◌else◌, slice_index_or, slice_set};
 ghost use Rattle.flow.specs.Trimming.{can_carry, trimmed, dealt};
 ghost use Rattle.engine.specs.Arcs.{limit_of};
-ghost use Rattle.engine.specs.Jobs.{links_of};
 
 use crate::arc::Arc;
 use crate::engine::Engine;
@@ -20,6 +19,7 @@ fn pick(links: &[Arc], chosen: &mut [Arc; 512]) -> usize
     ensures bound { result ≤ 512 }
     ensures kept { take result chosen.new ≡ trimmed limit_of links.now }
 {
+    // Kept: what is counted is the place to write, which a `filter` in front of the loop would not give.
     let mut count = 0;
     for arc in links {
         if arc.limit > 0 {
@@ -30,40 +30,6 @@ fn pick(links: &[Arc], chosen: &mut [Arc; 512]) -> usize
     count
 }
 
-// The job with only the links that have a limit above 0.
-fn smaller(job: &Job) -> Job
-    ensures links { links_of result ≡ trimmed limit_of (links_of job.now) }
-    ensures at { result.at ≡ job.now.at }
-    ensures most { result.most ≡ job.now.most }
-{
-    let mut chosen = [Arc {
-        tail: 0,
-        head: 0,
-        limit: 0,
-    }; 512];
-    let count = pick(job.links(), &mut chosen);
-    match Job::new(&chosen[0..count], job.at(), job.most()) {
-        Some(small) => small,
-        None => unreachable(),
-    }
-}
-
-// Writes the flow of the link at `place`, which is the next of `part` if the link has a limit above 0, and tells which is next then.
-fn give(arc: Arc, part: &[i32; 512], next: usize, flow: &mut [i32; 512], place: usize) -> usize
-    requires next { next < 512 }
-    requires place { place < 512 }
-    ensures flow { flow.new ≡ slice_set flow.old place (if can_carry limit_of arc then slice_index_or part.now next (pos 0) else pos 0) }
-    ensures next { result ≡ (if can_carry limit_of arc then next + 1 else next) }
-{
-    if arc.limit > 0 {
-        flow[place] = part[next];
-        next + 1
-    } else {
-        flow[place] = 0;
-        next
-    }
-}
-
 // Gives the links with a limit above 0 the flows of `part` in order, and the others flow 0.
 fn deal(links: &[Arc], part: &[i32; 512], flow: &mut [i32; 512])
     requires { length links.now ≤ 512 }
@@ -71,16 +37,24 @@ fn deal(links: &[Arc], part: &[i32; 512], flow: &mut [i32; 512])
 {
     let mut next = 0;
     for (i, arc) in links.iter().enumerate() {
-        next = give(*arc, part, next, flow, i);
+        if arc.limit > 0 {
+            flow[i] = part[next];
+            next += 1;
+        } else {
+            flow[i] = 0;
+        }
     }
 }
 
 impl<E: Engine> Engine for Trim<E> {
-    fn solve(&mut self, job: &Job, flow: &mut [i32; 512], side: &mut [bool; 64]) -> Taps<u32> {
-        let small = smaller(job);
+    fn solve(&mut self, job: &Job<'_>, flow: &mut [i32; 512], side: &mut [bool; 64]) -> Taps<u32> {
+        let links = job.links();
+        let mut chosen = [Arc::default(); 512];
+        let count = pick(links, &mut chosen);
+        let small = job.with_links(&chosen[0..count]);
         let mut part = [0; 512];
         let amounts = self.below.solve(&small, &mut part, side);
-        deal(job.links(), &part, flow);
+        deal(links, &part, flow);
         amounts
     }
 }

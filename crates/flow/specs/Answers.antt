@@ -1,5 +1,5 @@
 -- What an engine's answer to a job means: a flow over links of any type with two feeds and two drains.
-use Rattle.std.specs.Prelude.{◌≡◌, ℕ, ◌+◌, ◌<◌, ◌≤◌, Bool, cond, List, length, ℤ, pos, ◌+ℤ◌, ◌-ℤ◌, nat_eq, slice_index_or, unsigned_abs}
+use Rattle.std.specs.Prelude.{◌≡◌, ℕ, ◌+◌, ◌<◌, ◌≤◌, Bool, List, length, ℤ, pos, ◌+ℤ◌, ◌-ℤ◌, nat_eq, slice_index_or, unsigned_abs, if◌then◌else◌}
 use Rattle.flow.specs.declared.taps.Taps.{Taps}
 use Rattle.flow.specs.Nets.{only, members, net, side_slots}
 
@@ -26,7 +26,7 @@ module _ {X : Type 0} (low high : X → ℕ) where
 
   -- the cost of a side: limits of feeds outside it, of links with just one end in it, and of drains in it
   abbrev pub cost : (X → ℕ) → (at most : Taps ℕ) → List X → (ℕ → Bool) → ℕ
-  cost limit at most ls S = (cond (S at.feed1) 0 most.feed1 + cond (S at.feed2) 0 most.feed2) + side_slots low high limit S ls + (cond (S at.drain1) most.drain1 0 + cond (S at.drain2) most.drain2 0)
+  cost limit at most ls S = ((if S at.feed1 then 0 else most.feed1) + (if S at.feed2 then 0 else most.feed2)) + side_slots low high limit S ls + ((if S at.drain1 then most.drain1 else 0) + (if S at.drain2 then most.drain2 else 0))
 
 -- a flow for each link, the four amounts and a side
 pub record Answer : Type 0 where

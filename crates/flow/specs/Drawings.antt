@@ -1,5 +1,5 @@
 -- Drawing a plan: five jobs for engines, over limits of half the slots, and the shares and sides made of their answers.
-use Rattle.std.specs.Prelude.{◌≡◌, ℕ, ◌+◌, ◌-◌, ◌*◌, ◌<◌, min, Bool, cond, not, ◌⊎◌, List, length, ℤ, pos, ◌+ℤ◌, ◌-ℤ◌, slice_index_or}
+use Rattle.std.specs.Prelude.{◌≡◌, ℕ, ◌+◌, ◌-◌, ◌*◌, ◌<◌, min, Bool, not, ◌⊎◌, List, length, ℤ, pos, ◌+ℤ◌, ◌-ℤ◌, slice_index_or, if◌then◌else◌}
 use Rattle.flow.specs.declared.pairs.Pairs.{Pairs}
 use Rattle.flow.specs.declared.taps.Taps.{Taps}
 use Rattle.flow.specs.Ranges.{cabinets, most_fed}
@@ -37,11 +37,11 @@ module _ {X : Type 0} (low high : X → ℕ) where
 
 -- S if it parts the ends of stream 1, else where just one of F and S holds
 abbrev pub mix : (F S : ℕ → Bool) → Pairs → ℕ → Bool
-mix F S p v = cond (xor (S p.source1) (S p.goal1)) (S v) (xor (F v) (S v))
+mix F S p v = if xor (S p.source1) (S p.goal1) then S v else xor (F v) (S v)
 
 -- the sum side made of a first side F and the side S of a job that was full: F if it parts the ends of stream 2, else `mix` or its complement, whichever holds source 1
 abbrev pub made_side : (F S : ℕ → Bool) → Pairs → ℕ → Bool
-made_side F S p v = cond (xor (F p.source2) (F p.goal2)) (F v) (not (xor (mix F S p v) (mix F S p p.source1)))
+made_side F S p v = if xor (F p.source2) (F p.goal2) then F v else not (xor (mix F S p v) (mix F S p p.source1))
 
 -- two sides have the same cabinets
 abbrev pub SameSide : (S R : ℕ → Bool) → Type 0

@@ -1,4 +1,5 @@
 pub mod Ranges
+pub mod Streams
 pub mod Nets
 pub mod Plans
 pub mod Answers

@@ -1,7 +1,7 @@
 -- A mesh is a list of links of any type X with two ends, the cabinets `low` and `high`.
 -- A flow, or the shares of a stream, is a list of whole numbers, one for each link in turn, positive from `low` to `high`; what is missing at its end counts as 0.
 -- A side is a set of cabinets, `ℕ → Bool`.
-use Rattle.std.specs.Prelude.{ℕ, zero, suc, ◌+◌, ◌<◌, Bool, true, false, cond, not, List, [], ◌∷◌, length, drop, ℤ, pos, ◌+ℤ◌, ◌-ℤ◌, nat_eq, slice_index_or}
+use Rattle.std.specs.Prelude.{ℕ, zero, suc, ◌+◌, ◌<◌, Bool, true, false, not, List, [], ◌∷◌, length, drop, ℤ, pos, ◌+ℤ◌, ◌-ℤ◌, nat_eq, slice_index_or, if◌then◌else◌}
 use Rattle.std.specs.Bool.{beq}
 
 -- z if the test passes, else 0
@@ -52,7 +52,7 @@ module _ {X : Type 0} (low high : X → ℕ) where
   -- the slots of a side: those of all links with just one end in it
   abbrev pub side_slots : (X → ℕ) → (ℕ → Bool) → List X → ℕ
   side_slots capacity S [] = 0
-  side_slots capacity S (l ∷ ls) = cond (crosses S l) (capacity l) 0 + side_slots capacity S ls
+  side_slots capacity S (l ∷ ls) = (if crosses S l then capacity l else 0) + side_slots capacity S ls
 
   -- both ends of every link are cabinets below n
   abbrev pub Inside : ℕ → List X → Type 0

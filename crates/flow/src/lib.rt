@@ -4,7 +4,9 @@
 pub mod edge;
 pub mod nets;
 pub mod pairs;
+pub mod ranges;
 pub mod shares;
 pub mod sides;
+pub mod stream;
 pub mod taps;
 pub mod theorems;

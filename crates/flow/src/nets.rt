@@ -5,6 +5,7 @@ ghost use Rattle.flow.specs.Nets.{only, net};
 ghost use Rattle.flow.specs.Tests.{is_kept};
 
 use crate::edge::Edge;
+use crate::pairs::Pair;
 
 // The share if this end of its link is the cabinet, else 0.
 fn share_at(end: u8, share: i32, cabinet: u8) -> i64
@@ -29,17 +30,17 @@ pub fn net_at<E: Edge>(links: &[E], shares: &[i32], cabinet: u8) -> i64
     ensures { result ≡ net E.Edge.low E.Edge.high links.now shares.now cabinet }
 {
     let mut sum = 0;
-    for (i, link) in links.iter().enumerate() {
-        sum += link_net(link, shares[i], cabinet);
+    for (link, &share) in links.iter().zip(shares) {
+        sum += link_net(link, share, cabinet);
     }
     sum
 }
 
 // Whether the cabinet is one of the stream's ends or as much enters it as leaves it.
-pub fn keeps<E: Edge>(links: &[E], shares: &[i32], source: u8, goal: u8, cabinet: u8) -> bool
+pub fn keeps<E: Edge>(links: &[E], shares: &[i32], pair: Pair, cabinet: u8) -> bool
     requires few { length links.now ≤ most_links }
     requires long { length links.now ≤ length shares.now }
-    ensures { result ≡ is_kept E.Edge.low E.Edge.high source goal links.now shares.now cabinet }
+    ensures { result ≡ is_kept E.Edge.low E.Edge.high pair.source pair.goal links.now shares.now cabinet }
 {
-    cabinet == source || cabinet == goal || net_at(links, shares, cabinet) == 0
+    cabinet == pair.source || cabinet == pair.goal || net_at(links, shares, cabinet) == 0
 }

@@ -2,6 +2,6 @@
 #![tactic(auto)]
 
 pub mod grounds;
-pub mod net;
+pub mod mesh;
 #[cfg(test)]
 mod tests;

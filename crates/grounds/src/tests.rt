@@ -1,37 +1,19 @@
 // The search on the two grounds, and a queue that goes round its places.
 use crate::grounds::{OneWay, Slotted};
-use crate::net::{Net, is_mesh};
+use crate::mesh::is_mesh;
 use search::find::find_path;
-use search::incidence::Incidence;
 use search::links::Ends;
+use search::net::Net;
 use search::queue::Queue;
 
 // Two links join 0 and 1, and the one with slots is taken; 3 is cut off by a link without slots.
 #[test]
 fn a_link_without_slots_is_shut(rt: HostRuntime) {
-    let links = [
-        Ends {
-            first: 0,
-            second: 1,
-        },
-        Ends {
-            first: 1,
-            second: 0,
-        },
-        Ends {
-            first: 1,
-            second: 2,
-        },
-        Ends {
-            first: 3,
-            second: 2,
-        },
-    ];
+    let links = [(0, 1), (1, 0), (1, 2), (3, 2)].map(Ends::from);
     let slots = [0u32, 2, 4, 0];
     assert!(rt; is_mesh(&links));
-    let index = Incidence::of(&links);
     let ground = Slotted {
-        net: Net::new(&links, &index),
+        net: Net::of(&links),
         slots: &slots,
     };
     let mut path = [99u16; 64];
@@ -47,28 +29,10 @@ fn a_link_without_slots_is_shut(rt: HostRuntime) {
 // Round a ring of four one-way links the path backwards takes the long way.
 #[test]
 fn a_one_way_ring_is_walked_in_its_direction(rt: HostRuntime) {
-    let links = [
-        Ends {
-            first: 0,
-            second: 1,
-        },
-        Ends {
-            first: 1,
-            second: 2,
-        },
-        Ends {
-            first: 2,
-            second: 3,
-        },
-        Ends {
-            first: 3,
-            second: 0,
-        },
-    ];
+    let links = [(0, 1), (1, 2), (2, 3), (3, 0)].map(Ends::from);
     assert!(rt; is_mesh(&links));
-    let index = Incidence::of(&links);
     let ground = OneWay {
-        net: Net::new(&links, &index),
+        net: Net::of(&links),
     };
     let mut path = [99u16; 64];
     let mut side = [false; 64];

@@ -12,10 +12,11 @@ use mesh::fault::Fault;
 use mesh::row::Row;
 use preflow::preflow::Preflow;
 use std::alloc::{AllocError, Global};
+use std::fmt;
 
 // The engines that a plan is drawn with.
 #[derive(Clone, Copy)]
-pub enum Drawer {
+pub(crate) enum Drawer {
     Augmenting,
     TrimOverAugmenting,
     Preflow,
@@ -23,7 +24,7 @@ pub enum Drawer {
 }
 
 #[derive(Clone, Copy)]
-pub enum Call {
+pub(crate) enum Call {
     Add(u8, u8, u32),
     Resize(u16, u32),
     DropLink(u16),
@@ -31,8 +32,35 @@ pub enum Call {
     Draw(Drawer),
 }
 
+impl fmt::Display for Drawer {
+    fn fmt<W: fmt::Write>(&self, f: &mut fmt::Formatter<W>) -> fmt::Result {
+        f.write_str(match self {
+            Drawer::Augmenting => "augmenting paths",
+            Drawer::TrimOverAugmenting => "Trim over augmenting paths",
+            Drawer::Preflow => "preflow",
+            Drawer::TrimOverPreflow => "Trim over preflow",
+        })
+    }
+}
+
+impl fmt::Display for Call {
+    fn fmt<W: fmt::Write>(&self, f: &mut fmt::Formatter<W>) -> fmt::Result {
+        match *self {
+            Call::Add(one, other, slots) => write!(f, "add {one}-{other}:{slots}"),
+            Call::Resize(link, slots) => write!(f, "resize {link} to {slots}"),
+            Call::DropLink(link) => write!(f, "drop {link}"),
+            Call::Name(pairs) => write!(
+                f,
+                "name {}->{} {}->{}",
+                pairs.source1, pairs.goal1, pairs.source2, pairs.goal2
+            ),
+            Call::Draw(drawer) => write!(f, "draw with {drawer}"),
+        }
+    }
+}
+
 // The streams' ends: stream one's source and goal, then stream two's.
-pub fn ends(source1: u8, goal1: u8, source2: u8, goal2: u8) -> Pairs {
+pub(crate) fn ends(source1: u8, goal1: u8, source2: u8, goal2: u8) -> Pairs {
     Pairs {
         source1,
         goal1,
@@ -42,7 +70,7 @@ pub fn ends(source1: u8, goal1: u8, source2: u8, goal2: u8) -> Pairs {
 }
 
 // Draws with one of the engines.
-pub fn draw(book: &mut Book, drawer: Drawer) -> Result<(), Fault>
+pub(crate) fn draw(book: &mut Book, drawer: Drawer) -> Result<(), Fault>
     ensures { Step (view book.old) Draw result (view book.new) }
 {
     match drawer {
@@ -54,7 +82,7 @@ pub fn draw(book: &mut Book, drawer: Drawer) -> Result<(), Fault>
 }
 
 // Makes the call on the book. None of these calls begins or closes a trial.
-pub fn make(book: &mut Book, call: Call) -> Result<(), Fault>
+pub(crate) fn make(book: &mut Book, call: Call) -> Result<(), Fault>
     ensures { (view book.new).trial ≡ (view book.old).trial }
 {
     match call {
@@ -67,7 +95,7 @@ pub fn make(book: &mut Book, call: Call) -> Result<(), Fault>
 }
 
 // A new book with these links and pairs.
-pub fn book_of(heap: Global, links: &[Row], pairs: Pairs) -> Result<Book, AllocError> {
+pub(crate) fn book_of(heap: Global, links: &[Row], pairs: Pairs) -> Result<Book, AllocError> {
     let mut book = Book::open(heap)?;
     for link in links {
         let _ = book.add(link.low, link.high, link.slots);

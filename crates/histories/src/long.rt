@@ -1,7 +1,7 @@
 // One long history of a book, with draws in between, and after each call what the book holds.
 use crate::call::{Call, Drawer, ends};
 use crate::proposals::{plan, propose, side};
-use crate::telling::{play, print_fault, print_held};
+use crate::telling::{play, print_held};
 use crate::trials::{begin, close};
 use book::book::Book;
 use std::io;
@@ -67,7 +67,7 @@ fn try_out(rt: &HostRuntime, book: &mut Book) -> io::Result<()> {
             played?;
             println!(rt; "  the trial is closed")
         }
-        Err(fault) => print_fault(rt, fault),
+        Err(fault) => println!(rt; "{fault}"),
     }
 }
 
@@ -116,7 +116,7 @@ fn empty(rt: &HostRuntime, book: &mut Book) -> io::Result<()> {
     )
 }
 
-pub fn run(rt: &HostRuntime) -> io::Result<()> {
+pub(crate) fn run(rt: &HostRuntime) -> io::Result<()> {
     println!(rt; "# a long history")?;
     let mut book = Book::open(rt.alloc())?;
     grow(rt, &mut book)?;

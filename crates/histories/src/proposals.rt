@@ -8,7 +8,7 @@ use meshes::worked::Worked;
 use std::io;
 
 // The side list of these cabinets, each below 64.
-pub fn side(cabinets: &[u8]) -> [bool; 64] {
+pub(crate) fn side(cabinets: &[u8]) -> [bool; 64] {
     let mut list = [false; 64];
     for cabinet in cabinets {
         list[(*cabinet % 64) as usize] = true;
@@ -17,7 +17,7 @@ pub fn side(cabinets: &[u8]) -> [bool; 64] {
 }
 
 // Shares of both streams, with the cut and the first side that are to show them best.
-pub fn plan<'a>(
+pub(crate) fn plan<'a>(
     one: &'a [i32],
     two: &'a [i32],
     cut: &'a [bool],
@@ -32,7 +32,7 @@ pub fn plan<'a>(
 }
 
 // Proposes a plan and prints the answer.
-pub fn propose(
+pub(crate) fn propose(
     rt: &HostRuntime,
     book: &mut Book,
     name: &str,
@@ -182,7 +182,7 @@ fn propose_on_trunk(rt: &HostRuntime) -> io::Result<()> {
     print_held(rt, &book)
 }
 
-pub fn run(rt: &HostRuntime) -> io::Result<()> {
+pub(crate) fn run(rt: &HostRuntime) -> io::Result<()> {
     propose_head_on(rt)?;
     propose_lengths(rt)?;
     propose_on_trunk(rt)?;

@@ -83,7 +83,7 @@ fn fill(rt: &HostRuntime) -> io::Result<()> {
     )
 }
 
-pub fn run(rt: &HostRuntime) -> io::Result<()> {
+pub(crate) fn run(rt: &HostRuntime) -> io::Result<()> {
     let mut book = Book::open(rt.alloc())?;
     refuse_adds(rt, &mut book)?;
     refuse_changes(rt, &mut book)?;

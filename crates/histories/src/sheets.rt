@@ -1,25 +1,10 @@
 // What is read off a sheet, and what it refuses.
 use crate::call::{Drawer, book_of, draw, ends};
-use crate::telling::print_fault;
+use crate::telling::print_told;
 use crate::worked::{one_link, trunk};
-use mesh::fault::Fault;
-use sheet::answers::{Shares, Side};
+use sheet::answers::Side;
 use sheet::sheet::Sheet;
 use std::io;
-
-fn print_shares(rt: &HostRuntime, shares: Result<Shares, Fault>) -> io::Result<()> {
-    match shares {
-        Ok(shares) => println!(rt; "{} {}", shares.one, shares.two),
-        Err(fault) => print_fault(rt, fault),
-    }
-}
-
-fn print_member(rt: &HostRuntime, member: Result<bool, Fault>) -> io::Result<()> {
-    match member {
-        Ok(inside) => println!(rt; "{inside}"),
-        Err(fault) => print_fault(rt, fault),
-    }
-}
 
 // The links of a stream's route, in order.
 fn print_route(rt: &HostRuntime, sheet: &Sheet<'_>, stream: u8) -> io::Result<()> {
@@ -32,27 +17,19 @@ fn print_route(rt: &HostRuntime, sheet: &Sheet<'_>, stream: u8) -> io::Result<()
             println!(rt; "in all {count}")
         }
         Ok(None) => println!(rt; "none"),
-        Err(fault) => print_fault(rt, fault),
-    }
-}
-
-fn print_room(rt: &HostRuntime, sheet: &Sheet<'_>) -> io::Result<()> {
-    let mut path = [7u16; 63];
-    match sheet.route(1, &mut path) {
-        Ok(_) => println!(rt; "answered"),
-        Err(fault) => print_fault(rt, fault),
+        Err(fault) => println!(rt; "{fault}"),
     }
 }
 
 fn read(rt: &HostRuntime, sheet: &Sheet<'_>) -> io::Result<()> {
     print!(rt; "  shares of link 1: ")?;
-    print_shares(rt, sheet.shares(1))?;
+    print_told(rt, sheet.shares(1))?;
     print!(rt; "  shares of link 5: ")?;
-    print_shares(rt, sheet.shares(5))?;
+    print_told(rt, sheet.shares(5))?;
     print!(rt; "  cabinet 0 in the cut: ")?;
-    print_member(rt, sheet.holds(Side::Cut, 0))?;
+    print_told(rt, sheet.holds(Side::Cut, 0))?;
     print!(rt; "  cabinet 64 in the first side: ")?;
-    print_member(rt, sheet.holds(Side::First, 64))?;
+    print_told(rt, sheet.holds(Side::First, 64))?;
     print!(rt; "  route of stream 1: ")?;
     print_route(rt, sheet, 1)?;
     print!(rt; "  route of stream 2: ")?;
@@ -60,10 +37,11 @@ fn read(rt: &HostRuntime, sheet: &Sheet<'_>) -> io::Result<()> {
     print!(rt; "  route of stream 3: ")?;
     print_route(rt, sheet, 3)?;
     print!(rt; "  a route into 63 places: ")?;
-    print_room(rt, sheet)
+    let mut path = [7u16; 63];
+    print_told(rt, sheet.route(1, &mut path).map(|_| "answered"))
 }
 
-pub fn run(rt: &HostRuntime) -> io::Result<()> {
+pub(crate) fn run(rt: &HostRuntime) -> io::Result<()> {
     println!(rt; "# a sheet with no plan")?;
     let mut book = book_of(rt.alloc(), &trunk(), ends(0, 1, 2, 3))?;
     read(rt, &book.sheet())?;

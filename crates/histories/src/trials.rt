@@ -4,7 +4,7 @@ ghost use Rattle.book.specs.Books.{view};
 ghost use Rattle.book.specs.Receipts.{trial_of};
 
 use crate::call::{Call, Drawer, book_of, ends};
-use crate::telling::{play, print_fault};
+use crate::telling::play;
 use crate::worked::{print_outcome, ring, trunk};
 use book::book::Book;
 use book::trial::{Receipt, Refused};
@@ -13,14 +13,14 @@ use meshes::worked::Worked;
 use std::io;
 
 // Begins a trial, which then stands with the receipt's numbers.
-pub fn begin(book: &mut Book, link: u16) -> Result<Receipt, Fault>
+pub(crate) fn begin(book: &mut Book, link: u16) -> Result<Receipt, Fault>
     ensures { elim result [ Ok receipt ↦ (view book.new).trial ≡ Some (trial_of receipt) | Err fault ↦ Unit {0} ] }
 {
     book.begin(link)
 }
 
 // Closes the trial that stands with its own receipt, which is never refused.
-pub fn close(book: &mut Book, receipt: Receipt)
+pub(crate) fn close(book: &mut Book, receipt: Receipt)
     requires { (view book.old).trial ≡ Some (trial_of receipt) }
 {
     match book.close(receipt) {
@@ -40,7 +40,7 @@ fn print_receipt(rt: &HostRuntime, receipt: &Receipt) -> io::Result<()> {
 // A refused close, after which the receipt came back and closed its own trial.
 fn print_handed_back(rt: &HostRuntime, fault: Fault) -> io::Result<()> {
     print!(rt; "  close at another book: ")?;
-    print_fault(rt, fault)?;
+    println!(rt; "{fault}")?;
     println!(rt; "  closed at its own")
 }
 
@@ -52,7 +52,7 @@ fn print_second(rt: &HostRuntime, book: &mut Book, link: u16) -> io::Result<()>
     print!(rt; "  begin {link}: ")?;
     match book.begin(link) {
         Ok(_receipt) => unreachable(),
-        Err(fault) => print_fault(rt, fault),
+        Err(fault) => println!(rt; "{fault}"),
     }
 }
 
@@ -81,7 +81,7 @@ fn out(rt: &HostRuntime) -> io::Result<()> {
             second?;
             played?;
         }
-        Err(fault) => print_fault(rt, fault)?,
+        Err(fault) => println!(rt; "{fault}")?,
     }
     print_outcome(rt, Worked::TrunkInTrial)?;
     println!(rt; "  closed")?;
@@ -106,7 +106,7 @@ fn refuse_begin(rt: &HostRuntime) -> io::Result<()> {
         }
         Err(fault) => {
             print!(rt; "  begin 5: ")?;
-            print_fault(rt, fault)
+            println!(rt; "{fault}")
         }
     }
 }
@@ -161,7 +161,7 @@ fn refuse_no_trial(rt: &HostRuntime) -> io::Result<()> {
     let mut other = Book::open(rt.alloc())?;
     match begin(&mut book, 1) {
         Ok(receipt) => close_elsewhere(rt, &mut book, &mut other, receipt)?,
-        Err(fault) => print_fault(rt, fault)?,
+        Err(fault) => println!(rt; "{fault}")?,
     }
     play(rt, &mut book, &[Call::Draw(Drawer::Augmenting)])
 }
@@ -174,7 +174,7 @@ fn begin_second(rt: &HostRuntime, one: &mut Book, two: &mut Book, first: Receipt
         Ok(second) => close_crossed(rt, one, two, first, second),
         Err(fault) => {
             close(one, first);
-            print_fault(rt, fault)
+            println!(rt; "{fault}")
         }
     }
 }
@@ -185,13 +185,13 @@ fn refuse_other_trial(rt: &HostRuntime) -> io::Result<()> {
     let mut two = book_of(rt.alloc(), &ring(), ends(0, 2, 1, 3))?;
     match begin(&mut one, 1) {
         Ok(first) => begin_second(rt, &mut one, &mut two, first)?,
-        Err(fault) => print_fault(rt, fault)?,
+        Err(fault) => println!(rt; "{fault}")?,
     }
     play(rt, &mut one, &[Call::Draw(Drawer::Preflow)])?;
     play(rt, &mut two, &[Call::Draw(Drawer::Preflow)])
 }
 
-pub fn run(rt: &HostRuntime) -> io::Result<()> {
+pub(crate) fn run(rt: &HostRuntime) -> io::Result<()> {
     out(rt)?;
     refuse_begin(rt)?;
     refuse_no_trial(rt)?;

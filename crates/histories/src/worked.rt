@@ -1,10 +1,9 @@
 // The worked meshes, each drawn with every engine; the last line has what is shown of the mesh.
 use crate::call::{Drawer, book_of, draw, ends};
-use crate::telling::{drawer_name, print_answer, print_held, print_totals};
+use crate::telling::{print_answer, print_held, print_told};
 use book::book::Book;
 use flow::pairs::Pairs;
 use mesh::row::Row;
-use meshes::outcome::Outcome;
 use meshes::results::outcome_of;
 use meshes::worked::Worked;
 use std::io;
@@ -21,12 +20,12 @@ fn link(low: u8, high: u8, slots: u32) -> Row {
 }
 
 // The link of the head-on proposals.
-pub fn one_link() -> [Row; 1] {
+pub(crate) fn one_link() -> [Row; 1] {
     [link(0, 1, 10)]
 }
 
 // Cabinets 0 and 2 at one end of a trunk, 1 and 3 at the other; the trunk is link 1.
-pub fn trunk() -> [Row; 5] {
+pub(crate) fn trunk() -> [Row; 5] {
     [
         link(0, 4, 6),
         link(4, 5, 8),
@@ -36,23 +35,20 @@ pub fn trunk() -> [Row; 5] {
     ]
 }
 
-pub fn ring() -> [Row; 4] {
+pub(crate) fn ring() -> [Row; 4] {
     [link(0, 1, 2), link(1, 2, 2), link(2, 3, 2), link(0, 3, 2)]
 }
 
 // What is shown of the mesh, from the definitions alone.
-pub fn print_outcome(rt: &HostRuntime, mesh: Worked) -> io::Result<()> {
+pub(crate) fn print_outcome(rt: &HostRuntime, mesh: Worked) -> io::Result<()> {
     print!(rt; "  shown: ")?;
-    match outcome_of(mesh) {
-        Outcome::Best(totals) => print_totals(rt, totals),
-        Outcome::Refused { number, place } => println!(rt; "{number} at {place}"),
-    }
+    print_told(rt, outcome_of(mesh))
 }
 
 // Draws with each engine in turn and prints sum, total one and total two.
 fn draw_each(rt: &HostRuntime, book: &mut Book) -> io::Result<()> {
     for drawer in DRAWERS {
-        print!(rt; "  {}: ", drawer_name(drawer))?;
+        print!(rt; "  {drawer}: ")?;
         match draw(book, drawer) {
             Ok(()) => print_held(rt, book)?,
             refused => print_answer(rt, refused)?,
@@ -118,7 +114,7 @@ fn show_small(rt: &HostRuntime) -> io::Result<()> {
     )
 }
 
-pub fn run(rt: &HostRuntime) -> io::Result<()> {
+pub(crate) fn run(rt: &HostRuntime) -> io::Result<()> {
     show_small(rt)?;
     let trunk = trunk();
     show(

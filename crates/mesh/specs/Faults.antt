@@ -1,5 +1,5 @@
 -- What a fault is reported as.
-use Rattle.std.specs.Prelude.{ℕ, Bool, cond, Some, Option}
+use Rattle.std.specs.Prelude.{ℕ, Bool, List, ◌++◌, codes, decimal, Some, Option, if◌then◌else◌}
 use Rattle.mesh.specs.declared.fault.Fault.{Fault}
 use Rattle.mesh.specs.declared.fault.Fault.TheVariants.{TrialStands, Cabinet, Ends, Slots, Linked, Full, NoLink, Unnamed, NoTrial, Proposal, Sheet}
 use Rattle.plan.specs.Flaws as flaws
@@ -58,6 +58,17 @@ layer NoTrial = layers.Book
 layer (Proposal flaw) = layers.Proposal
 layer (Sheet m) = layers.Sheet
 
+-- a layer is told by its name
+abbrev pub layer_text : Layer → List ℕ
+layer_text layers.Order = codes "order"
+layer_text layers.Book = codes "book"
+layer_text layers.Proposal = codes "proposal"
+layer_text layers.Sheet = codes "sheet"
+
+-- a fault is told by its number, its place and its layer
+abbrev pub fault_text : Fault → List ℕ
+fault_text fault = decimal (number fault) ++ (codes " at " ++ (decimal (place fault) ++ (codes " " ++ layer_text (layer fault))))
+
 -- a line of the table of refusals: this fault if the test holds, else what the rest of the table says
 abbrev pub refuse_if : Bool → Fault → Option Fault → Option Fault
-refuse_if test fault rest = cond test (Some fault) rest
+refuse_if test fault rest = (if test then Some fault else rest)

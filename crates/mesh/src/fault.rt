@@ -1,7 +1,7 @@
 use plan::flaw::Flaw;
 
 // Why a call is refused.
-#[derive(Clone, Copy)]
+#[derive(Clone, Copy, Debug, PartialEq, Eq)]
 pub enum Fault {
     TrialStands,
     Cabinet,
@@ -19,7 +19,7 @@ pub enum Fault {
 }
 
 // What a sheet lacks: a held plan, the link, the cabinet or the stream that was asked for, or room for a route in the caller's list.
-#[derive(Clone, Copy)]
+#[derive(Clone, Copy, Debug, PartialEq, Eq)]
 pub enum Missing {
     Plan,
     Link,
@@ -29,7 +29,7 @@ pub enum Missing {
 }
 
 // The place of check that a fault names.
-#[derive(Clone, Copy)]
+#[derive(Clone, Copy, Debug, PartialEq, Eq)]
 pub enum Layer {
     Order,
     Book,
@@ -37,4 +37,5 @@ pub enum Layer {
     Sheet,
 }
 
+mod conversions;
 pub mod tell;

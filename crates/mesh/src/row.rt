@@ -5,7 +5,7 @@ use flow::edge::Edge;
 
 // A link as the book's list holds it: plain numbers. A cabinet is a number below 64,
 // and slots are the shares of radio time that a link has to give.
-#[derive(Clone, Copy)]
+#[derive(Clone, Copy, Debug, PartialEq, Eq)]
 pub struct Row {
     pub low: u8,
     pub high: u8,

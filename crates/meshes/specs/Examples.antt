@@ -1,5 +1,5 @@
 -- Worked examples: the calls that make a mesh in a book, a plan for it, and what that comes to.
-use Rattle.std.specs.Prelude.{◌≡◌, ℕ, List, [], ◌∷◌, Some, Ok}
+use Rattle.std.specs.Prelude.{◌≡◌, ℕ, List, [], ◌∷◌, Some, Ok, Err, Result}
 use Rattle.flow.specs.declared.pairs.Pairs.{Pairs}
 use Rattle.flow.specs.Plans.{total_one, total_two}
 use Rattle.mesh.specs.declared.fault.Fault.{Fault}
@@ -9,8 +9,11 @@ use Rattle.sheet.specs.declared.answers.Totals.{Totals}
 use Rattle.book.specs.History.{State, Call, opened, refusal, Step}
 use Rattle.book.specs.History.Call.{Admit}
 use Rattle.book.specs.Plans.{Plan, HeldPlan, BestPlan, plan_sum}
-use Rattle.meshes.specs.declared.outcome.Outcome.{Outcome}
-use Rattle.meshes.specs.declared.outcome.Outcome.TheVariants.{Best, Refused}
+use Rattle.meshes.specs.declared.refusal.Refusal.{Refusal}
+
+-- what a plan comes to: the totals of a best plan, or the number and the place of the fault that a proposal is refused with
+abbrev pub Outcome : Type 0
+Outcome = Result Totals Refusal
 
 -- an example: calls on an opened book, a plan with its two sides, and what comes of it
 pub record Example : Type 0 where
@@ -42,8 +45,8 @@ pub record IsRefused (s : State) (h : Plan) (n k : ℕ) : Type 0 where
 
 -- what the plan comes to in this state
 abbrev pub ComesTo : State → Plan → Outcome → Type 0
-ComesTo s h (Best totals) = ShowsBest s h totals
-ComesTo s h (Refused n k) = IsRefused s h n k
+ComesTo s h (Ok totals) = ShowsBest s h totals
+ComesTo s h (Err refusal) = IsRefused s h refusal.number refusal.place
 
 -- the example's calls lead to a state in which its plan comes to its outcome
 abbrev pub Shown : Example → Type 0

@@ -1,5 +1,5 @@
 -- The table of worked meshes. Links are numbered from 0 in the order of adding.
-use Rattle.std.specs.Prelude.{ℕ, Bool, true, false, List, [], ◌∷◌, ◌++◌, replicate, ℤ, pos, neg_ℤ, slice_set}
+use Rattle.std.specs.Prelude.{ℕ, Bool, true, false, List, [], ◌∷◌, ◌++◌, replicate, ℤ, pos, Ok, Err, neg_ℤ, slice_set}
 use Rattle.flow.specs.declared.pairs.Pairs.{Pairs}
 use Rattle.flow.specs.Ranges.{cabinets}
 use Rattle.book.specs.History.{Call}
@@ -7,9 +7,7 @@ use Rattle.book.specs.History.Call.{Add, Resize, Name, Begin}
 use Rattle.book.specs.Plans.{Plan}
 use Rattle.meshes.specs.declared.worked.Worked.{Worked}
 use Rattle.meshes.specs.declared.worked.Worked.TheVariants.{NoLinks, SameWay, HeadOn, HeadOnChain, OneSource, Trunk, TrunkTurned, Ring, RingResized, TrunkInTrial, HeadOnEven, HeadOnOver}
-use Rattle.meshes.specs.declared.outcome.Outcome.{Outcome}
-use Rattle.meshes.specs.declared.outcome.Outcome.TheVariants.{Best, Refused}
-use Rattle.meshes.specs.Examples.{Example, Shown}
+use Rattle.meshes.specs.Examples.{Outcome, Example, Shown}
 
 -- stream one's source and goal, then stream two's
 abbrev pub ends : ℕ → ℕ → ℕ → ℕ → Pairs
@@ -26,7 +24,11 @@ plan one two cut first = record { one = one; two = two; cut = side cut; first = 
 
 -- a sum and the two totals
 abbrev pub best : (sum one two : ℕ) → Outcome
-best sum one two = Best (record { sum = pos sum; one = pos one; two = pos two })
+best sum one two = Ok (record { sum = pos sum; one = pos one; two = pos two })
+
+-- the number and the place of a fault
+abbrev pub refused : (number place : ℕ) → Outcome
+refused number place = Err (record { number = number; place = place })
 
 -- a share against the link's direction, from the higher cabinet to the lower
 abbrev pub back : ℕ → ℤ
@@ -97,11 +99,11 @@ example TrunkInTrial =
 example HeadOnEven =
     worked (single (ends 0 1 1 0))
     (plan (pos 5 ∷ []) (back 5 ∷ []) (0 ∷ []) (0 ∷ []))
-    (Refused 46 0)
+    (refused 46 0)
 example HeadOnOver =
     worked (single (ends 0 1 1 0))
     (plan (pos 6 ∷ []) (back 5 ∷ []) (0 ∷ []) (0 ∷ []))
-    (Refused 42 0)
+    (refused 42 0)
 
 -- every worked mesh comes to what the table says
 abbrev pub WholeTable : Type 0

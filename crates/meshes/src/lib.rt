@@ -1,6 +1,6 @@
 // Worked meshes: small meshes with what each comes to, shown from the definitions.
 #![tactic(auto)]
 
-pub mod outcome;
+pub mod refusal;
 pub mod results;
 pub mod worked;

@@ -1,27 +1,27 @@
 // What each worked mesh comes to.
-ghost use Rattle.std.specs.Prelude.{◌≡◌};
+ghost use Rattle.std.specs.Prelude.{◌≡◌, Ok, Err};
 ghost use Rattle.meshes.specs.Table.{example, WholeTable};
 
-use crate::outcome::Outcome;
+use crate::refusal::Refusal;
 use crate::worked::Worked;
 use sheet::answers::Totals;
 
-// The outcome of a best plan with these totals.
-fn best(sum: i64, one: i64, two: i64) -> Outcome
-    ensures { result ≡ Outcome.Best (record { sum = sum; one = one; two = two }) }
+// The totals of a best plan.
+fn best(sum: i64, one: i64, two: i64) -> Result<Totals, Refusal>
+    ensures { result ≡ Ok (record { sum = sum; one = one; two = two }) }
 {
-    Outcome::Best(Totals { sum, one, two })
+    Ok(Totals { sum, one, two })
 }
 
-// The outcome of a proposal that is refused with this number and place.
-fn refused(number: u8, place: u32) -> Outcome
-    ensures { result ≡ Outcome.Refused number place }
+// A proposal that is refused with this number and place.
+fn refused(number: u8, place: u32) -> Result<Totals, Refusal>
+    ensures { result ≡ Err (record { number = number; place = place }) }
 {
-    Outcome::Refused { number, place }
+    Err(Refusal { number, place })
 }
 
 // What the table says of a worked mesh.
-fn listed(mesh: Worked) -> Outcome
+fn listed(mesh: Worked) -> Result<Totals, Refusal>
     ensures { result ≡ (example mesh).outcome }
 {
     match mesh {
@@ -42,7 +42,7 @@ fn listed(mesh: Worked) -> Outcome
 
 // What a worked mesh comes to. The whole table is shown: each mesh's calls are accepted, and in the state that they
 // lead to its plan is held and best with just these totals, or its proposal is refused with just this number and place.
-pub fn outcome_of(mesh: Worked) -> Outcome
+pub fn outcome_of(mesh: Worked) -> Result<Totals, Refusal>
     ensures value { result ≡ (example mesh).outcome }
     ensures shown { WholeTable }
 {

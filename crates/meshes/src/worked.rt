@@ -1,5 +1,5 @@
 // The worked meshes, each named by what it shows.
-#[derive(Clone, Copy)]
+#[derive(Clone, Copy, Debug, PartialEq, Eq)]
 pub enum Worked {
     // no links at all, and two pairs apart
     NoLinks,

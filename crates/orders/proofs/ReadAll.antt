@@ -3,8 +3,7 @@ use Rattle.std.proofs.Common.{◌≡◌, ℕ, zero, suc, ◌+◌, ◌*◌, ◌�
 use Rattle.std.specs.List.{flat_map, AllByRecursion}
 use Rattle.std.proofs.ByRecursion.{All-push}
 use Rattle.std.proofs.lemmas.List.{length-append, append_cancel_left, drop-drop, flat_map_more}
-use Rattle.orders.specs.declared.record.Stop.{Stop}
-use Rattle.orders.specs.Records.{Entry, Item, bytes, read, orders, Known, Stops, ReadAs, ReadUpTo, ReadOnce}
+use Rattle.orders.specs.Records.{Stop, Entry, Item, bytes, read, orders, Known, Stops, ReadAs, ReadUpTo, ReadOnce}
 use Rattle.orders.proofs.ReadOne.{Apart, known_read, read_front, read_stops, stops_same, stops_before}
 
 -- The marks of the order file's table are all different.

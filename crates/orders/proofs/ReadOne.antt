@@ -6,9 +6,7 @@ use Rattle.std.proofs.lemmas.List.{length-append, length-take-le, take-append-dr
 use Rattle.std.proofs.lemmas.Bool.{and_parts, eqb-true, leb-true, leb-false, le-leb, cond-true}
 use Rattle.orders.specs.declared.record.RecordFault.{RecordFault}
 use Rattle.orders.specs.declared.record.RecordFault.TheVariants.{Short, Unknown}
-use Rattle.orders.specs.declared.record.Stop.{Stop}
-use Rattle.orders.specs.declared.record.Stop.TheVariants.{End, Fault}
-use Rattle.orders.specs.Records.{Entry, Item, bytes, lookup, cut, read, Known, Begins, Deserve, Stops}
+use Rattle.orders.specs.Records.{Stop, Entry, Item, bytes, lookup, cut, read, Known, Begins, Deserve, Stops}
 
 module _ {K : Type 0} where
   -- No two lines of the table have the same mark: each line is the one that its own mark finds.
@@ -48,7 +46,7 @@ module _ {K : Type 0} where
 
   -- What the bytes after a known mark give, by whether there are enough.
   abbrev cut_by : Bool → Entry K → List ℕ → Result (Item K) Stop
-  cut_by enough e bs = cond enough (Ok (record { entry = e; body = take e.long bs })) (Err (Fault Short))
+  cut_by enough e bs = cond enough (Ok (record { entry = e; body = take e.long bs })) (Err (Some Short))
 
   cut_front : (table : List (Entry K)) (a b : ℕ) (bs : List ℕ) (i : Item K) (o : Option (Entry K)) → lookup table a b ≡ o → cut o bs ≡ Ok i → Front table (a ∷ b ∷ bs) i
   cut_front table a b bs i None line h = let z : ◌≡◌ {A = ℕ} 0 1 = cc in absurd (omega arith)
@@ -75,12 +73,12 @@ module _ {K : Type 0} where
 
   -- The stop is a fault that these bytes deserve.
   abbrev Faulty : List (Entry K) → List ℕ → Stop → Type 0
-  Faulty table bs End = ⊥
-  Faulty table bs (Fault f) = Deserve table bs f
+  Faulty table bs None = ⊥
+  Faulty table bs (Some f) = Deserve table bs f
 
   cut_faulty : (table : List (Entry K)) (a b : ℕ) (bs : List ℕ) (s : Stop) (o : Option (Entry K)) → Apart table → lookup table a b ≡ o → cut o bs ≡ Err s → Faulty table (a ∷ b ∷ bs) s
   cut_faulty table a b bs s None apart line h =
-      let is : Fault Unknown ≡ s = cc in
+      let is : Some Unknown ≡ s = cc in
       let at : Deserve table (a ∷ b ∷ bs) Unknown = (
         omega arith,
         λ e after has same.
@@ -94,7 +92,7 @@ module _ {K : Type 0} where
       by : (t : Bool) → leb e.long (length bs) ≡ t → cut_by t e bs ≡ Err s → Faulty table (a ∷ b ∷ bs) s
       by true p q = let z : ◌≡◌ {A = ℕ} 0 1 = cc in absurd (omega arith)
       by false p q =
-          let is : Fault Short ≡ s = cc in
+          let is : Some Short ≡ s = cc in
           let found = lookup_finds table a b e line in
           let one = found.1 in
           let two = found.2 in
@@ -111,13 +109,13 @@ module _ {K : Type 0} where
 
   -- The stop that reading gives is the one before these bytes.
   pub read_stops : (table : List (Entry K)) (bs : List ℕ) (s : Stop) → Apart table → read table bs ≡ Err s → Stops table bs s
-  read_stops table [] End apart h = refl
-  read_stops table [] (Fault f) apart h = let z : ◌≡◌ {A = ℕ} 0 1 = cc in absurd (omega arith)
-  read_stops table (a ∷ []) End apart h = let z : ◌≡◌ {A = ℕ} 0 1 = cc in absurd (omega arith)
-  read_stops table (a ∷ []) (Fault Short) apart h = (front_read table (a ∷ []) (Fault Short) apart h, inl refl)
-  read_stops table (a ∷ []) (Fault Unknown) apart h = let z : ◌≡◌ {A = ℕ} 0 1 = cc in absurd (omega arith)
-  read_stops table (a ∷ b ∷ bs) End apart h = absurd (cut_faulty table a b bs End (lookup table a b) apart refl h)
-  read_stops table (a ∷ b ∷ bs) (Fault f) apart h = (front_read table (a ∷ b ∷ bs) (Fault f) apart h, cut_faulty table a b bs (Fault f) (lookup table a b) apart refl h)
+  read_stops table [] None apart h = refl
+  read_stops table [] (Some f) apart h = let z : ◌≡◌ {A = ℕ} 0 1 = cc in absurd (omega arith)
+  read_stops table (a ∷ []) None apart h = let z : ◌≡◌ {A = ℕ} 0 1 = cc in absurd (omega arith)
+  read_stops table (a ∷ []) (Some Short) apart h = (front_read table (a ∷ []) (Some Short) apart h, inl refl)
+  read_stops table (a ∷ []) (Some Unknown) apart h = let z : ◌≡◌ {A = ℕ} 0 1 = cc in absurd (omega arith)
+  read_stops table (a ∷ b ∷ bs) None apart h = absurd (cut_faulty table a b bs None (lookup table a b) apart refl h)
+  read_stops table (a ∷ b ∷ bs) (Some f) apart h = (front_read table (a ∷ b ∷ bs) (Some f) apart h, cut_faulty table a b bs (Some f) (lookup table a b) apart refl h)
 
   -- No bytes deserve no fault.
   none_deserved : (table : List (Entry K)) (f : RecordFault) → Deserve table [] f → ⊥
@@ -132,15 +130,15 @@ module _ {K : Type 0} where
 
   -- Bytes have one stop.
   pub stops_same : (table : List (Entry K)) (bs : List ℕ) (s t : Stop) → Stops table bs s → Stops table bs t → s ≡ t
-  stops_same table bs End End p q = refl
-  stops_same table bs End (Fault f) p q = absurd (none_deserved table f (subst (λ (xs : List ℕ). Deserve table xs f) p q.1))
-  stops_same table bs (Fault f) End p q = absurd (none_deserved table f (subst (λ (xs : List ℕ). Deserve table xs f) q p.1))
-  stops_same table bs (Fault Short) (Fault Short) p q = refl
-  stops_same table bs (Fault Short) (Fault Unknown) p q = absurd (deserve_apart table bs p.1 q.1)
-  stops_same table bs (Fault Unknown) (Fault Short) p q = absurd (deserve_apart table bs q.1 p.1)
-  stops_same table bs (Fault Unknown) (Fault Unknown) p q = refl
+  stops_same table bs None None p q = refl
+  stops_same table bs None (Some f) p q = absurd (none_deserved table f (subst (λ (xs : List ℕ). Deserve table xs f) p q.1))
+  stops_same table bs (Some f) None p q = absurd (none_deserved table f (subst (λ (xs : List ℕ). Deserve table xs f) q p.1))
+  stops_same table bs (Some Short) (Some Short) p q = refl
+  stops_same table bs (Some Short) (Some Unknown) p q = absurd (deserve_apart table bs p.1 q.1)
+  stops_same table bs (Some Unknown) (Some Short) p q = absurd (deserve_apart table bs q.1 p.1)
+  stops_same table bs (Some Unknown) (Some Unknown) p q = refl
 
   -- Reading does not stop before a known record.
   pub stops_before : (table : List (Entry K)) (i : Item K) (after : List ℕ) (s : Stop) → Known table i → Stops table (bytes i ++ after) s → ⊥
-  stops_before table i after End known h = let z : ◌≡◌ {A = ℕ} 0 1 = cc in omega arith
-  stops_before table i after (Fault f) known h = h.0 (i, after, known, refl)
+  stops_before table i after None known h = let z : ◌≡◌ {A = ℕ} 0 1 = cc in omega arith
+  stops_before table i after (Some f) known h = h.0 (i, after, known, refl)

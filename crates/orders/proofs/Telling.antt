@@ -6,10 +6,9 @@ use Rattle.book.specs.History.{State}
 use Rattle.orders.specs.declared.kind.Kind.{Kind}
 use Rattle.orders.specs.declared.line.Line.{Line}
 use Rattle.orders.specs.declared.order.Order.{Order}
-use Rattle.orders.specs.declared.record.Stop.{Stop}
 use Rattle.orders.specs.Lines.{ended}
 use Rattle.orders.specs.Meanings.{order, ordered}
-use Rattle.orders.specs.Records.{Item, bytes, read, taken, orders, ReadUpTo}
+use Rattle.orders.specs.Records.{Stop, Item, bytes, read, taken, orders, ReadUpTo}
 use Rattle.orders.specs.Runs.{Carried, Tells, Ran, last_line}
 use Rattle.orders.specs.Runs.Tells.{none, next}
 use Rattle.orders.proofs.ReadOrders.{ordered_item, ordered_stop}

@@ -4,8 +4,7 @@ use Rattle.orders.specs.declared.kind.Kind.{Kind}
 use Rattle.orders.specs.declared.kind.Kind.TheVariants.{Lk, Sz, Dr, St, Pl}
 use Rattle.orders.specs.declared.order.Order.{Order}
 use Rattle.orders.specs.declared.order.Order.TheVariants.{Add, Resize, Drop, Name, Draw}
-use Rattle.orders.specs.declared.record.Stop.{Stop}
-use Rattle.orders.specs.Records.{Item}
+use Rattle.orders.specs.Records.{Item, Stop}
 use Rattle.orders.specs.Values.{field}
 
 -- The order that a body of this kind holds, each number at its place and in its width.

@@ -1,12 +1,14 @@
 -- The records of a file: a table of marks and body lengths, what reading one gives, and what it is to read a whole file.
-use Rattle.std.specs.Prelude.{◌≡◌, ℕ, ◌<◌, ◌≤◌, cond, ◌&&◌, ◌⊎◌, List, [], ◌∷◌, ◌++◌, length, take, drop, Some, None, Ok, Err, Option, Result, ◌==◌, ◌≢◌, nat_le}
+use Rattle.std.specs.Prelude.{◌≡◌, ℕ, ◌<◌, ◌≤◌, ◌&&◌, ◌⊎◌, List, [], ◌∷◌, ◌++◌, length, take, drop, Some, None, Ok, Err, Option, Result, ◌==◌, ◌≢◌, nat_le, if◌then◌else◌}
 use Rattle.std.specs.List.{ContainsAt as Has, flat_map, AllByRecursion}
 use Rattle.orders.specs.declared.kind.Kind.{Kind}
 use Rattle.orders.specs.declared.kind.Kind.TheVariants.{Lk, Sz, Dr, St, Pl}
 use Rattle.orders.specs.declared.record.RecordFault.{RecordFault}
 use Rattle.orders.specs.declared.record.RecordFault.TheVariants.{Short, Unknown}
-use Rattle.orders.specs.declared.record.Stop.{Stop}
-use Rattle.orders.specs.declared.record.Stop.TheVariants.{End, Fault}
+
+-- Why reading stops: a fault, or none at the end of the bytes.
+abbrev pub Stop : Type 0
+Stop = Option RecordFault
 
 -- A line of a table: a kind of record, the two bytes of its mark and the length of its body.
 pub record Entry (K : Type 0) : Type 0 where
@@ -39,17 +41,17 @@ bytes i = i.entry.first ∷ i.entry.second ∷ i.body
 -- The first line of a table with this mark.
 abbrev pub lookup : {K : Type 0} → List (Entry K) → ℕ → ℕ → Option (Entry K)
 lookup [] a b = None
-lookup (e ∷ es) a b = cond (a == e.first && b == e.second) (Some e) (lookup es a b)
+lookup (e ∷ es) a b = if a == e.first && b == e.second then Some e else lookup es a b
 
 -- What the bytes after a mark give: a body of the mark's length, where there are enough.
 abbrev pub cut : {K : Type 0} → Option (Entry K) → List ℕ → Result (Item K) Stop
-cut None bs = Err (Fault Unknown)
-cut (Some e) bs = cond (nat_le e.long (length bs)) (Ok (record { entry = e; body = take e.long bs })) (Err (Fault Short))
+cut None bs = Err (Some Unknown)
+cut (Some e) bs = if nat_le e.long (length bs) then Ok (record { entry = e; body = take e.long bs }) else Err (Some Short)
 
 -- What reading gives where these bytes are left: the record at their front, or why there is none.
 abbrev pub read : {K : Type 0} → List (Entry K) → List ℕ → Result (Item K) Stop
-read table [] = Err End
-read table (a ∷ []) = Err (Fault Short)
+read table [] = Err None
+read table (a ∷ []) = Err (Some Short)
 read table (a ∷ b ∷ bs) = cut (lookup table a b) bs
 
 -- How many bytes a reading takes: those of the record, and none where it stops.
@@ -73,8 +75,8 @@ Deserve {K} table bs Unknown = (2 ≤ length bs) × ((e : Entry K) (after : List
 
 -- Reading stops before these bytes: there are none, or no known record stands at their front and the fault is what they deserve.
 abbrev pub Stops : {K : Type 0} → List (Entry K) → List ℕ → Stop → Type 0
-Stops table bs End = bs ≡ []
-Stops table bs (Fault f) = (Begins table bs → ⊥) × Deserve table bs f
+Stops table bs None = bs ≡ []
+Stops table bs (Some f) = (Begins table bs → ⊥) × Deserve table bs f
 
 -- The file is these records' bytes one after another and then a rest, before which reading stops.
 pub record ReadAs {K : Type 0} (table : List (Entry K)) (file : List ℕ) (items : List (Item K)) (stop : Stop) : Type 0 where

@@ -1,5 +1,5 @@
 -- What a run of an order file on a book does and tells.
-use Rattle.std.specs.Prelude.{◌≡◌, ℕ, ◌+◌, List, [], ◌∷◌, ◌++◌, length, Ok, Err, MatchBool, Result, nat_lt}
+use Rattle.std.specs.Prelude.{◌≡◌, ℕ, ◌+◌, List, [], ◌∷◌, ◌++◌, length, Some, None, Ok, Err, MatchBool, Result, nat_lt}
 use Rattle.std.specs.List.{flat_map}
 use Rattle.mesh.specs.declared.fault.Fault.{Fault}
 use Rattle.book.specs.History.{State, Call, Step}
@@ -13,11 +13,9 @@ use Rattle.orders.specs.declared.line.Line.{Line}
 use Rattle.orders.specs.declared.line.Line.TheVariants as lines
 use Rattle.orders.specs.declared.order.Order.{Order}
 use Rattle.orders.specs.declared.order.Order.TheVariants.{Add, Resize, Drop, Name, Draw}
-use Rattle.orders.specs.declared.record.Stop.{Stop}
-use Rattle.orders.specs.declared.record.Stop.TheVariants as stops
 use Rattle.orders.specs.Lines.{ended, most_bytes}
 use Rattle.orders.specs.Meanings.{order, asked}
-use Rattle.orders.specs.Records.{Item, bytes, orders, ReadAs}
+use Rattle.orders.specs.Records.{Item, Stop, bytes, orders, ReadAs}
 
 -- The line of an order that the book accepted or refused: its place among the orders, its kind, and the first byte of its record.
 abbrev pub answer_line : ℕ → Kind → ℕ → Result (Unit {0}) Fault → Line
@@ -28,14 +26,19 @@ answer_line n kind at (Err fault) = lines.Refused n kind fault at
 abbrev pub Called : ℕ → Kind → ℕ → State → Call → Line → State → Type 0
 Called n kind at s call line t = (r : Result (Unit {0}) Fault) × Step s call r t × (line ≡ answer_line n kind at r)
 
--- The line of a draw, with the totals that a sheet of the book tells.
-abbrev pub PlannedLine : ℕ → ℕ → Result (Unit {0}) Fault → State → Line → Type 0
-PlannedLine n at (Ok _) t line = (totals : Totals) × Answers (reading t) Total Totalled (Ok totals) × (line ≡ lines.Planned n totals)
-PlannedLine n at (Err fault) t line = line ≡ lines.Refused n (asked Draw) fault at
+-- A plan was drawn on the book, with whatever engine, and these are the totals of the plan that is now held; or the draw was refused.
+abbrev pub Drew : State → Result Totals Fault → State → Type 0
+Drew s (Ok totals) t = Step s draw_call (Ok tt) t × Answers (reading t) Total Totalled (Ok totals)
+Drew s (Err fault) t = Step s draw_call (Err fault) t
 
--- A plan was drawn on the book, with whatever engine, and the line tells the totals of the plan that is now held; or it was refused.
+-- The line of a draw: the plan's totals, or the refusal.
+abbrev pub draw_line : ℕ → ℕ → Result Totals Fault → Line
+draw_line n at (Ok totals) = lines.Planned n totals
+draw_line n at (Err fault) = lines.Refused n (asked Draw) fault at
+
+-- A plan was drawn on the book or refused, and the line tells it.
 abbrev pub Planned : ℕ → ℕ → State → Line → State → Type 0
-Planned n at s line t = (r : Result (Unit {0}) Fault) × Step s draw_call r t × PlannedLine n at r t line
+Planned n at s line t = (r : Result Totals Fault) × Drew s r t × (line ≡ draw_line n at r)
 
 -- An order was carried out: each makes its call on the book.
 abbrev pub Carried : ℕ → ℕ → State → Order → Line → State → Type 0
@@ -52,8 +55,8 @@ pub data Tells (s : State) : List (Item Kind) → List Line → State → Type 0
 
 -- The last line: how many orders there were, or the fault with its place.
 abbrev pub last_line : ℕ → ℕ → Stop → Line
-last_line n at stops.End = lines.End n
-last_line n at (stops.Fault fault) = lines.Unread fault at
+last_line n at None = lines.End n
+last_line n at (Some fault) = lines.Unread fault at
 
 -- A whole run: the file was read to where reading stops, its records were carried out in turn, and the text is their lines and the last.
 pub record Ran (s : State) (file text : List ℕ) (t : State) : Type 0 where

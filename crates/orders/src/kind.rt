@@ -1,9 +1,13 @@
-ghost use Rattle.std.specs.Prelude.{◌≡◌, [], ◌∷◌};
-ghost use Rattle.orders.specs.Records.{entry, lookup, orders};
-ghost use Rattle.std.specs.Option.{option_map};
+ghost use Rattle.std.specs.Prelude.{◌≡◌, [], ◌∷◌, Some};
+ghost use Rattle.orders.specs.Lines.{mark_text};
+ghost use Rattle.orders.specs.Records.{entry};
+ghost use Rattle.orders.specs.Readings.{Marked};
+
+use crate::record::RecordFault;
+use std::fmt;
 
 // The five kinds of record: add a link, resize it, drop it, name the streams, draw a plan.
-#[derive(Clone, Copy)]
+#[derive(Clone, Copy, Debug, PartialEq, Eq)]
 pub enum Kind {
     Lk,
     Sz,
@@ -37,18 +41,37 @@ impl Kind {
             Kind::Pl => 0,
         }
     }
+}
+
+impl TryFrom<[u8; 2]> for Kind {
+    type Error = RecordFault;
+
+    ghost try_from_gives = { Marked };
 
     // The kind that two bytes are the mark of, if they are one.
-    pub fn of_mark(first: u8, second: u8) -> Option<Kind>
-        ensures { option_map entry result ≡ lookup orders first second }
-    {
-        match &[first, second] {
-            b"LK" => Some(Kind::Lk),
-            b"SZ" => Some(Kind::Sz),
-            b"DR" => Some(Kind::Dr),
-            b"ST" => Some(Kind::St),
-            b"PL" => Some(Kind::Pl),
-            _ => None,
+    fn try_from(mark: [u8; 2]) -> Result<Kind, RecordFault> {
+        match &mark {
+            b"LK" => Ok(Kind::Lk),
+            b"SZ" => Ok(Kind::Sz),
+            b"DR" => Ok(Kind::Dr),
+            b"ST" => Ok(Kind::St),
+            b"PL" => Ok(Kind::Pl),
+            _ => Err(RecordFault::Unknown),
         }
+    }
+}
+
+// A kind is told by its mark.
+impl fmt::Display for Kind {
+    ghost output = { λ kind. Some (mark_text kind) };
+
+    fn fmt<W: fmt::Write>(&self, f: &mut fmt::Formatter<W>) -> fmt::Result {
+        f.write_str(match self {
+            Kind::Lk => "LK",
+            Kind::Sz => "SZ",
+            Kind::Dr => "DR",
+            Kind::St => "ST",
+            Kind::Pl => "PL",
+        })
     }
 }

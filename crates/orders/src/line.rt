@@ -1,9 +1,9 @@
 ghost use Rattle.std.specs.Prelude.{◌≡◌, ◌++◌, Some, string_bytes, OnOk};
-ghost use Rattle.orders.specs.Lines.{mark_text, layer_text, spelled, ended};
+ghost use Rattle.orders.specs.Lines.{spelled, ended};
 
 use crate::kind::Kind;
 use crate::record::RecordFault;
-use mesh::fault::{Fault, Layer};
+use mesh::fault::Fault;
 use sheet::answers::Totals;
 use std::alloc::AllocError;
 use std::fmt;
@@ -44,55 +44,23 @@ pub enum Line {
     TooLong,
 }
 
-// A kind's mark as text.
-fn mark_text(kind: Kind) -> &'static str
-    ensures { result.now ≡ mark_text kind }
-{
-    match kind {
-        Kind::Lk => "LK",
-        Kind::Sz => "SZ",
-        Kind::Dr => "DR",
-        Kind::St => "ST",
-        Kind::Pl => "PL",
-    }
-}
-
-// A layer's name.
-fn layer_text(layer: Layer) -> &'static str
-    ensures { result.now ≡ layer_text layer }
-{
-    match layer {
-        Layer::Order => "order",
-        Layer::Book => "book",
-        Layer::Proposal => "proposal",
-        Layer::Sheet => "sheet",
-    }
-}
-
 impl fmt::Display for Line {
     ghost output = { λ line. Some (spelled line) };
 
     fn fmt<W: fmt::Write>(&self, f: &mut fmt::Formatter<W>) -> fmt::Result {
         match *self {
-            Line::Done { order, kind } => {
-                let mark = mark_text(kind);
-                write!(f, "{order} {mark} ok")
-            }
+            Line::Done { order, kind } => { write!(f, "{order} {kind} ok") }
             Line::Refused {
                 order,
                 kind,
                 fault,
                 at,
             } => {
-                let mark = mark_text(kind);
                 let number = fault.number();
-                let layer = layer_text(fault.layer());
-                write!(f, "{order} {mark} {number} at {at} {layer}")
+                let layer = fault.layer();
+                write!(f, "{order} {kind} {number} at {at} {layer}")
             }
-            Line::Planned { order, totals } => {
-                let Totals { sum, one, two } = totals;
-                write!(f, "{order} PL ok {sum} {one} {two}")
-            }
+            Line::Planned { order, totals } => { write!(f, "{order} PL ok {totals}") }
             Line::End { orders } => write!(f, "end {orders}"),
             Line::Unread { fault, at } => {
                 let number = fault.number();
@@ -111,9 +79,6 @@ impl Line {
     pub fn put(self, text: &mut String) -> Result<(), AllocError>
         ensures { OnOk result (string_bytes text.new ≡ string_bytes text.old ++ ended self) }
     {
-        match writeln!(text, "{self}") {
-            Ok(()) => Ok(()),
-            Err(_) => Err(AllocError),
-        }
+        writeln!(text, "{self}")
     }
 }

@@ -1,11 +1,11 @@
 ghost use Rattle.std.specs.Prelude.{◌≡◌, ◌+◌, ◌≤◌, length, drop};
 ghost use Rattle.orders.specs.Records.{read, orders, taken};
 ghost use Rattle.orders.specs.Meanings.{ordered};
-ghost use Rattle.orders.specs.Readings.{seen};
+ghost use Rattle.orders.specs.Readings.{answered, seen};
 
 use crate::kind::Kind;
 use crate::order::Order;
-use crate::record::{Record, RecordFault, Stop};
+use crate::record::{Record, RecordFault};
 
 // A file with the place up to which it has been read.
 #[derive(Drop)]
@@ -31,8 +31,9 @@ impl<'a> Reader<'a> {
         self.place
     }
 
-    // The next record; where there is none, why, and the place stays.
-    pub fn next(&mut self) -> Result<Record<'a>, Stop>
+    // The next record, or none at the end of the file; or why the bytes that are left begin with no record.
+    // Without a record the place stays.
+    pub fn next(&mut self) -> Result<Option<Record<'a>>, RecordFault>
         ensures read { seen result ≡ read orders (drop self.old.place self.old.file.now) }
         ensures place { self.new.place ≡ self.old.place + taken (seen result) }
         ensures file { self.new.file.now ≡ self.old.file.now }
@@ -40,32 +41,28 @@ impl<'a> Reader<'a> {
         let Reader { file, place } = self;
         let (_, left) = file.split_at(*place);
         let [first, second, rest @ ..] = left else {
-            return Err(if left.is_empty() {
-                Stop::End
+            return if left.is_empty() {
+                Ok(None)
             } else {
-                Stop::Fault(RecordFault::Short)
-            });
+                Err(RecordFault::Short)
+            };
         };
-        let Some(kind) = Kind::of_mark(*first, *second) else {
-            return Err(Stop::Fault(RecordFault::Unknown));
-        };
-        let Some(body) = rest.get(0..kind.body_len()) else {
-            return Err(Stop::Fault(RecordFault::Short));
-        };
+        let kind = Kind::try_from([*first, *second])?;
+        let body = rest.get(0..kind.body_len()).ok_or(RecordFault::Short)?;
         *place += 2 + body.len();
-        Ok(Record::new(kind, body))
+        Ok(Some(Record::new(kind, body)))
     }
 
-    // The order of the next record; where there is none, why, and the place stays.
-    pub fn next_order(&mut self) -> Result<Order, Stop>
-        ensures read { result ≡ ordered (read orders (drop self.old.place self.old.file.now)) }
+    // The order of the next record, or none at the end of the file; or why the bytes that are left begin with no
+    // record. Without a record the place stays.
+    pub fn next_order(&mut self) -> Result<Option<Order>, RecordFault>
+        ensures read { answered result ≡ ordered (read orders (drop self.old.place self.old.file.now)) }
         ensures place { self.new.place ≡ self.old.place + taken (read orders (drop self.old.place self.old.file.now)) }
         ensures file { self.new.file.now ≡ self.old.file.now }
     {
-        let record = self.next()?;
-        let Some(order) = record.order() else {
-            unreachable()
+        let Some(record) = self.next()? else {
+            return Ok(None);
         };
-        Ok(order)
+        Ok(record.order())
     }
 }

@@ -16,19 +16,12 @@ pub enum Record<'a> {
 }
 
 // Why no record can be read at a place.
-#[derive(Clone, Copy)]
+#[derive(Clone, Copy, Debug, PartialEq, Eq)]
 pub enum RecordFault {
     // One byte is left, or a known mark has too short a body.
     Short,
     // Two or more bytes are left, and the first two are no mark.
     Unknown,
-}
-
-// Where the reading of a file comes to rest.
-#[derive(Clone, Copy)]
-pub enum Stop {
-    End,
-    Fault(RecordFault),
 }
 
 impl RecordFault {

@@ -1,35 +1,23 @@
 ghost use Rattle.std.specs.Prelude.{◌≡◌, IfOk, string_bytes};
 ghost use Rattle.book.specs.Books.{view};
-ghost use Rattle.orders.specs.Runs.{Planned, Carried, Ran, Printed, last_line};
+ghost use Rattle.orders.specs.Runs.{Drew, Carried, Ran, Printed, last_line};
 
-use crate::kind::Kind;
 use crate::line::{Line, MOST_BYTES};
 use crate::order::Order;
 use crate::reader::Reader;
-use crate::record::Stop;
+use crate::record::RecordFault;
 use book::book::Book;
 use engine::engine::Engine;
+use mesh::fault::Fault;
+use sheet::answers::Totals;
 use std::alloc::{AllocError, Global};
 
-// Draws a plan on the book, and tells its totals.
-fn draw_plan<E: Engine>(book: &mut Book, engine: &mut E, number: usize, at: usize) -> Line
-    ensures { Planned number at (view book.old) result (view book.new) }
+// Draws a plan on the book, and gives its totals.
+fn draw_plan<E: Engine>(book: &mut Book, engine: &mut E) -> Result<Totals, Fault>
+    ensures { Drew (view book.old) result (view book.new) }
 {
-    if let Err(fault) = book.draw(engine) {
-        return Line::Refused {
-            order: number,
-            kind: Kind::Pl,
-            fault,
-            at,
-        };
-    }
-    let Ok(totals) = book.audit() else {
-        unreachable()
-    };
-    Line::Planned {
-        order: number,
-        totals,
-    }
+    book.draw(engine)?;
+    book.audit()
 }
 
 // Carries an order out on the book, and tells what became of it.
@@ -48,7 +36,15 @@ pub fn carry_out<E: Engine>(
         Order::Resize { link, slots } => book.resize(link, slots),
         Order::Drop { link } => book.drop_link(link),
         Order::Name(pairs) => book.name(pairs),
-        Order::Draw => return draw_plan(book, engine, number, at),
+        Order::Draw => match draw_plan(book, engine) {
+            Ok(totals) => {
+                return Line::Planned {
+                    order: number,
+                    totals,
+                };
+            }
+            Err(fault) => Err(fault),
+        },
     };
     match answer {
         Ok(()) => Line::Done {
@@ -64,13 +60,13 @@ pub fn carry_out<E: Engine>(
     }
 }
 
-// The line that ends a run after so many orders, where reading stopped at this place.
-fn last_line(orders: usize, at: usize, stop: Stop) -> Line
-    ensures { result ≡ last_line orders at stop }
+// The line that ends a run after so many orders: reading came to the end, or to a fault at this place.
+fn last_line(orders: usize, at: usize, fault: Option<RecordFault>) -> Line
+    ensures { result ≡ last_line orders at fault }
 {
-    match stop {
-        Stop::End => Line::End { orders },
-        Stop::Fault(fault) => Line::Unread { fault, at },
+    match fault {
+        None => Line::End { orders },
+        Some(fault) => Line::Unread { fault, at },
     }
 }
 
@@ -86,17 +82,18 @@ fn run_through<E: Engine>(
     let mut text = String::new(heap);
     let mut reader = Reader::new(file);
     let mut orders = 0;
-    let stop = loop {
+    let fault = loop {
         let at = reader.place();
         match reader.next_order() {
-            Ok(order) => {
+            Ok(Some(order)) => {
                 orders += 1;
                 carry_out(book, engine, orders, at, order).put(&mut text)?;
             }
-            Err(stop) => break stop,
+            Ok(None) => break None,
+            Err(fault) => break Some(fault),
         }
     };
-    last_line(orders, reader.place(), stop).put(&mut text)?;
+    last_line(orders, reader.place(), fault).put(&mut text)?;
     Ok(text)
 }
 

@@ -2,14 +2,15 @@ ghost use Rattle.orders.specs.Records.{ReadOnce, orders};
 ghost use Rattle.orders.specs.Surveys.{Surveyed};
 
 use crate::reader::Reader;
-use crate::record::Stop;
+use crate::record::RecordFault;
 
-// A file read to where reading stops: how many records, the place of the first byte not read, and why it stopped.
-#[derive(Clone, Copy)]
+// A file read to where reading stops: how many records, the place of the first byte not read, and the fault there,
+// or none at the end of the file.
+#[derive(Clone, Copy, Debug, PartialEq, Eq)]
 pub struct Survey {
     pub records: usize,
     pub place: usize,
-    pub stop: Stop,
+    pub fault: Option<RecordFault>,
 }
 
 impl Survey {
@@ -19,23 +20,22 @@ impl Survey {
     {
         let mut reader = Reader::new(file);
         let mut records = 0;
-        let stop = loop {
+        let fault = loop {
             match reader.next() {
-                Ok(_) => records += 1,
-                Err(stop) => break stop,
+                Ok(Some(_)) => records += 1,
+                Ok(None) => break None,
+                Err(fault) => break Some(fault),
             }
         };
         Survey {
             records,
             place: reader.place(),
-            stop,
+            fault,
         }
     }
 }
 
 // Every file is records and a stop in one way and no other.
-pub fn read_once() -> u8
+pub fn read_once()
     ensures { ReadOnce orders }
-{
-    0
-}
+{}

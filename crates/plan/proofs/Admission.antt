@@ -1,20 +1,23 @@
 -- A proposal has no flaw exactly when its lists fit and it is held with its two sides.
-use Rattle.std.proofs.Common.{◌≡◌, ℕ, ◌+◌, ◌<◌, ◌≤◌, Bool, true, false, List, [], ◌∷◌, map, length, get_or, ℤ, pos, nat_abs, Some, None, Decides, Option, sym, refl, ap, ◌∙◌, subst, ap₂, arith}
+use Rattle.std.proofs.Common.{◌≡◌, ℕ, ◌+◌, ◌<◌, ◌≤◌, min, Bool, true, false, not, leb, List, [], ◌∷◌, map, length, get_or, ℤ, pos, nat_abs, Some, None, Decides, Option, sym, refl, ap, ◌∙◌, subst, ap₂, arith}
+use Rattle.std.specs.List.{zip}
 use Rattle.std.specs.Option.{option_or}
-use Rattle.std.proofs.lemmas.List.{get_or-map}
+use Rattle.std.proofs.Math.Bool.{not-not}
+use Rattle.std.proofs.lemmas.Slice.Zip.{length-zip, get_or-zip}
+use Rattle.std.proofs.lemmas.List.{get_or-map, get_or_default}
 use Rattle.std.proofs.lemmas.Bool.{leb-true, le-leb}
 use Rattle.std.proofs.lemmas.Bool.Decides.{Decides-eqb, Decides-and, Decides-like}
 use Rattle.flow.specs.declared.pairs.Pairs.{Pairs}
 use Rattle.flow.specs.Ranges.{cabinets}
 use Rattle.flow.specs.Nets.{members, side_slots}
 use Rattle.flow.specs.Plans.{Shared, Conserved, Held, total_one, sum_of}
-use Rattle.flow.specs.Tests.{equal, is_first_side, is_sum_side, is_kept, is_conserved}
+use Rattle.flow.specs.Tests.{equal, is_first_side, is_sum_side, is_kept, is_conserved, shares_fit}
 use Rattle.flow.proofs.Deciding.{equal_decides, below_decides, first_side_decides, sum_side_decides, conserved_decides}
 use Rattle.plan.specs.declared.flaw.Flaw.{Flaw}
 use Rattle.plan.specs.declared.flaw.Flaw.TheVariants.{Lengths, Over, Broken, SumSide, FirstSide, Sum, First}
-use Rattle.plan.specs.Judging.{unless, flaw_at, lowest_failing, are_fitting, fits_at, lowest_broken, judged}
+use Rattle.plan.specs.Judging.{unless, flaw_at, lowest_failing, are_fitting, lowest_over, lowest_broken, judged}
 use Rattle.plan.specs.Laws.{Fitting}
-use Rattle.plan.proofs.Finding.{neither, none_all, all_none}
+use Rattle.plan.proofs.Finding.{neither, none_all, all_none, position_lowest}
 
 no_flaw : (f : Flaw) → ◌≡◌ {A = Option Flaw} (Some f) None → ⊥
 no_flaw f e = let z : ◌≡◌ {A = ℕ} 0 1 = cc in omega arith
@@ -42,14 +45,42 @@ fitting_decides ls fs gs cut first =
     (Decides-and _ _ (Decides-and _ _ (Decides-and _ _ (Decides-eqb (length fs) (length ls)) (Decides-eqb (length gs) (length ls))) (Decides-eqb (length cut) cabinets)) (Decides-eqb (length first) cabinets))
 
 module _ {X : Type 0} (capacity : X → ℕ) where
-  shares_none : (ls : List X) (fs gs : List ℤ) → lowest_failing (length ls) (fits_at capacity ls fs gs) ≡ None → Shared capacity ls fs gs
-  shares_none ls fs gs e k d h =
-      let b = (below_decides (fits_at capacity ls fs gs) (λ k. fits_at capacity ls fs gs k ≡ true) (λ k. (λ t. t, λ t. t)) (length ls)).0 (none_all (length ls) (fits_at capacity ls fs gs) e) k h in
+  -- the test of one link by its place
+  abbrev fits_at : List X → (fs gs : List ℤ) → ℕ → Bool
+  fits_at ls fs gs k = leb (nat_abs (get_or fs k (pos 0)) + nat_abs (get_or gs k (pos 0))) (get_or (map capacity ls) k 0)
+
+  -- the first of the links' places whose shares are above the slots
+  over_lowest : (ls : List X) (fs gs : List ℤ) → length fs ≡ length ls → length gs ≡ length ls → lowest_over capacity ls fs gs ≡ lowest_failing (length ls) (fits_at ls fs gs)
+  over_lowest ls fs gs ef eg =
+      position_lowest _ (zip (zip ls fs) gs) (fits_at ls fs gs) same ∙ ap (λ n. lowest_failing n (fits_at ls fs gs)) long
+    where
+      pairs : length (zip ls fs) ≡ length ls
+      pairs = length-zip ls fs ∙ (let e : min (length ls) (length fs) ≡ length ls = omega arith in e)
+
+      long : length (zip (zip ls fs) gs) ≡ length ls
+      long = length-zip (zip ls fs) gs ∙ (let e : min (length (zip ls fs)) (length gs) ≡ length ls = omega (arith, pairs) in e)
+
+      same : (k : ℕ) (d : (X × ℤ) × ℤ) → k < length (zip (zip ls fs) gs) → fits_at ls fs gs k ≡ not (not (shares_fit capacity (get_or (zip (zip ls fs) gs) k d).0.0 (get_or (zip (zip ls fs) gs) k d).0.1 (get_or (zip (zip ls fs) gs) k d).1))
+      same k d h =
+          let l : k < length ls = omega (arith, long) in
+          let f : k < length fs = omega arith in
+          let z : k < length (zip ls fs) = omega (arith, pairs) in
+          let g : k < length gs = omega arith in
+          let at : get_or (zip (zip ls fs) gs) k d ≡ ((get_or ls k d.0.0, get_or fs k d.0.1), get_or gs k d.1) = get_or-zip (zip ls fs) gs k d z g ∙ ap (λ (q : X × ℤ). (q, get_or gs k d.1)) (get_or-zip ls fs k d.0 l f) in
+          ap₂ leb (ap₂ (λ (a b : ℤ). nat_abs a + nat_abs b) (get_or_default fs k (pos 0) d.0.1 f) (get_or_default gs k (pos 0) d.1 g)) (get_or-map capacity ls k d.0.0 0 l)
+          ∙ sym (not-not _)
+          ∙ ap (λ (q : (X × ℤ) × ℤ). not (not (shares_fit capacity q.0.0 q.0.1 q.1))) (sym at)
+
+  shares_none : (ls : List X) (fs gs : List ℤ) → length fs ≡ length ls → length gs ≡ length ls → lowest_over capacity ls fs gs ≡ None → Shared capacity ls fs gs
+  shares_none ls fs gs ef eg e k d h =
+      let n = sym (over_lowest ls fs gs ef eg) ∙ e in
+      let b = (below_decides (fits_at ls fs gs) (λ k. fits_at ls fs gs k ≡ true) (λ k. (λ t. t, λ t. t)) (length ls)).0 (none_all (length ls) (fits_at ls fs gs) n) k h in
       subst (λ n. nat_abs (get_or fs k (pos 0)) + nat_abs (get_or gs k (pos 0)) ≤ n) (get_or-map capacity ls k d 0 h) (leb-true _ _ b)
 
-  none_shares : (ls : List X) (fs gs : List ℤ) → Shared capacity ls fs gs → lowest_failing (length ls) (fits_at capacity ls fs gs) ≡ None
-  none_shares ls fs gs s =
-      all_none (length ls) (fits_at capacity ls fs gs) ((below_decides (fits_at capacity ls fs gs) (λ k. fits_at capacity ls fs gs k ≡ true) (λ k. (λ t. t, λ t. t)) (length ls)).1 (λ k h. le-leb _ _ (at ls s k h)))
+  none_shares : (ls : List X) (fs gs : List ℤ) → length fs ≡ length ls → length gs ≡ length ls → Shared capacity ls fs gs → lowest_over capacity ls fs gs ≡ None
+  none_shares ls fs gs ef eg s =
+      over_lowest ls fs gs ef eg
+      ∙ all_none (length ls) (fits_at ls fs gs) ((below_decides (fits_at ls fs gs) (λ k. fits_at ls fs gs k ≡ true) (λ k. (λ t. t, λ t. t)) (length ls)).1 (λ k h. le-leb _ _ (at ls s k h)))
     where
       at : (ls : List X) → Shared capacity ls fs gs → (k : ℕ) → k < length ls → nat_abs (get_or fs k (pos 0)) + nat_abs (get_or gs k (pos 0)) ≤ get_or (map capacity ls) k 0
       at [] s k h = absurd (omega arith)
@@ -74,17 +105,18 @@ module _ {X : Type 0} (low high capacity : X → ℕ) (p : Pairs) (ls : List X) 
   pub judged_held : judged low high capacity p ls fs gs cut first ≡ None → Fitting ls fs gs cut first × Held low high capacity cabinets p ls fs gs (members cut) (members first)
   judged_held e =
       let c1 = passed (are_fitting ls fs gs cut first) Lengths _ e in
-      let c2 = passed_at Over (lowest_failing (length ls) (fits_at capacity ls fs gs)) _ c1.1 in
+      let fit = (fitting_decides ls fs gs cut first).0 c1.0 in
+      let c2 = passed_at Over (lowest_over capacity ls fs gs) _ c1.1 in
       let c3 = passed_at Broken (lowest_broken low high p ls fs gs) _ c2.1 in
       let c4 = passed (is_sum_side p (members cut)) SumSide _ c3.1 in
       let c5 = passed (is_first_side p (members first)) FirstSide _ c4.1 in
       let c6 = passed full_sum Sum _ c5.1 in
       let c7 = passed full_first First None c6.1 in
       let k = neither (lowest_failing cabinets (is_kept low high p.source1 p.goal1 ls fs)) (lowest_failing cabinets (is_kept low high p.source2 p.goal2 ls gs)) c3.0 in (
-        (fitting_decides ls fs gs cut first).0 c1.0,
+        fit,
         record {
           feasible = record {
-            shared = shares_none capacity ls fs gs c2.0;
+            shared = shares_none capacity ls fs gs fit.ones fit.twos c2.0;
             conserved1 = kept_none low high p.source1 p.goal1 ls fs k.0;
             conserved2 = kept_none low high p.source2 p.goal2 ls gs k.1;
           };
@@ -98,7 +130,7 @@ module _ {X : Type 0} (low high capacity : X → ℕ) (p : Pairs) (ls : List X) 
   pub held_judged : Fitting ls fs gs cut first → Held low high capacity cabinets p ls fs gs (members cut) (members first) → judged low high capacity p ls fs gs cut first ≡ None
   held_judged f h =
       pass (are_fitting ls fs gs cut first) Lengths _ ((fitting_decides ls fs gs cut first).1 f)
-      (pass_at Over (lowest_failing (length ls) (fits_at capacity ls fs gs)) _ (none_shares capacity ls fs gs h.feasible.shared)
+      (pass_at Over (lowest_over capacity ls fs gs) _ (none_shares capacity ls fs gs f.ones f.twos h.feasible.shared)
       (pass_at Broken (lowest_broken low high p ls fs gs) _ (ap₂ option_or (none_kept low high p.source1 p.goal1 ls fs h.feasible.conserved1) (none_kept low high p.source2 p.goal2 ls gs h.feasible.conserved2))
       (pass (is_sum_side p (members cut)) SumSide _ ((sum_side_decides p (members cut)).1 h.sum_side)
       (pass (is_first_side p (members first)) FirstSide _ ((first_side_decides p (members first)).1 h.first_side)

@@ -6,7 +6,7 @@ use Rattle.flow.specs.Ranges.{cabinets, most_fed}
 use Rattle.flow.specs.Nets.{members, Inside}
 use Rattle.flow.specs.Plans.{Proper, Held}
 use Rattle.flow.specs.Answers.{Answer, fed}
-use Rattle.flow.specs.Drawings.{turned, ends_of, both_of, Answered, made_side, SameSide, Drawn}
+use Rattle.flow.specs.Drawings.{turned, ends_of, both_of, Answered, made_side, SameSide, Halved, Drawn}
 use Rattle.flow.proofs.Maps.{solves_mapped}
 use Rattle.flow.proofs.Planning.{Floor, first_floor, floor_fed}
 use Rattle.flow.proofs.Drawing.{drawn_held}
@@ -14,7 +14,7 @@ use Rattle.engine.specs.declared.arc.Arc.{Arc}
 use Rattle.engine.specs.Arcs.{tail_of, head_of, limit_of, AllSound}
 use Rattle.engine.proofs.Arcs.{sound_inside}
 use Rattle.plan.specs.Links.{LawfulLinks}
-use Rattle.plan.specs.Halves.{half, half_arc, Bounds, MadeOf, Halves}
+use Rattle.plan.specs.Halves.{half, half_arc, Bounds, MadeOf, Flows, DrawnFlows}
 use Rattle.plan.proofs.Lawful.{lawful_inside, lawful_doubled, lawful_few}
 
 -- ---- what was drawn over the links of the jobs
@@ -44,7 +44,7 @@ module _ (p : Pairs) (ls : List Arc) (sound : AllSound ls) (pr : Proper cabinets
   full_high : (a v w z s : ℕ) → a ≡ x → z ≡ w → x ≤ w → w ≤ v → s ≡ min v w - x → a + s ≡ z
   full_high a v w z s ea ez h k e = omega arith
 
-  module _ (v w y : ℕ) (full turned_full cut : List Bool) (fs gs : List ℤ) (ahead : Bounds p x most_fed ls v full) (behind : Bounds (turned p) x most_fed ls w turned_full) (rest : y ≡ min v w - x) where
+  module _ (v w y : ℕ) (full turned_full cut : List Bool) (ahead : Bounds p x most_fed ls v full) (behind : Bounds (turned p) x most_fed ls w turned_full) (rest : y ≡ min v w - x) where
     made : (q : Pairs) (F S : ℕ → Bool) (R : List Bool) → F ≡ members first → S ≡ members R → SameSide (members cut) (made_side (members first) (members R) q) → SameSide (members cut) (made_side F S q)
     made q F S R ef es s k h = s k h ∙ sym (ap₂ (λ (A B : ℕ → Bool). made_side A B q k) ef es)
 
@@ -52,8 +52,8 @@ module _ (p : Pairs) (ls : List Arc) (sound : AllSound ls) (pr : Proper cabinets
     chosen (inl c) = inl (full_low _ v w _ y one.total_is ahead.total_is (no_less_ahead v full ahead) c.0 rest, made p one.solution.side ahead.solution.side full one.side_is ahead.side_is c.1)
     chosen (inr c) = inr (full_high _ v w _ y one.total_is behind.total_is (no_less_behind w turned_full behind) c.0 rest, made (turned p) one.solution.side behind.solution.side turned_full one.side_is behind.side_is c.1)
 
-    pub drawn_by : Halves p x y ls fs gs → MadeOf p v w first full turned_full cut → Drawn tail_of head_of limit_of p ls fs gs (members cut) (members first)
-    drawn_by h c =
+    pub drawn_by : (ys zs : List ℤ) → Flows p x y ls ys → Flows (turned p) x y ls zs → MadeOf p v w first full turned_full cut → DrawnFlows p ls ys zs cut first
+    drawn_by ys zs plus minus c fs gs shares =
         record {
           one = one.solution;
           one_solved = one.solved;
@@ -63,11 +63,11 @@ module _ (p : Pairs) (ls : List Arc) (sound : AllSound ls) (pr : Proper cabinets
           behind_solved = at_x (turned p) most_fed behind.solution behind.solved;
           second = y;
           second_is = rest ∙ ap₂ ◌-◌ (ap₂ min (sym ahead.total_is) (sym behind.total_is)) (sym one.total_is);
-          plus = h.plus;
-          plus_solved = at_x p y h.plus h.plus_solved;
-          minus = h.minus;
-          minus_solved = at_x (turned p) y h.minus h.minus_solved;
-          shares = h.shares;
+          plus = plus.solution;
+          plus_solved = at_x p y plus.solution plus.solved;
+          minus = minus.solution;
+          minus_solved = at_x (turned p) y minus.solution minus.solved;
+          shares = subst (λ (f : List ℤ). Halved (length ls) f minus.solution.flow fs gs) (sym plus.flow_is) (subst (λ (g : List ℤ). Halved (length ls) ys g fs gs) (sym minus.flow_is) shares);
           first_is = λ k l. sym (ap (λ (S : ℕ → Bool). S k) one.side_is);
           cut_is = chosen c;
         }

@@ -1,7 +1,11 @@
 -- Loops that look for the lowest number that fails a test.
-use Rattle.std.proofs.Common.{◌≡◌, ℕ, zero, suc, ◌+◌, ◌<◌, ◌≤◌, Bool, true, false, cond, ◌&&◌, ◌⊎◌, Some, None, Option, refl, ap, subst, ap₂, inl, inr, add-one, arith}
+use Rattle.std.proofs.Common.{◌≡◌, ℕ, zero, suc, ◌+◌, ◌<◌, ◌≤◌, Bool, true, false, cond, not, ◌&&◌, ltb, ◌⊎◌, List, [], ◌∷◌, length, get_or, position, Some, None, Option, sym, refl, ap, ◌∙◌, subst, ap₂, inl, inr, add-one, arith}
+use Rattle.std.specs.List.{position_or_len}
+use Rattle.std.proofs.lemmas.List.Sums.{fails_before_first, passes_at_first}
 use Rattle.std.specs.Option.{option_or}
-use Rattle.std.proofs.lemmas.Bool.{cases_eq, and_parts}
+use Rattle.std.proofs.lemmas.Bool.{cases_eq, cases_lt, lt-ltb, le-ltb, and_parts}
+use Rattle.flow.specs.declared.stream.Stream.{Stream}
+use Rattle.flow.specs.declared.stream.Stream.TheVariants.{One, Two}
 use Rattle.flow.specs.Tests.{all_below}
 use Rattle.plan.specs.Judging.{lowest_failing}
 
@@ -51,12 +55,25 @@ all_none (suc n) test e =
     let w = and_parts (test n) (all_below n test) e in
     ap₂ option_or (all_none n test w.1) (ap (λ (t : Bool). cond t None (Some n)) w.0)
 
--- two lists of tests, looked through one after the other
-module _ (n : ℕ) (test : ℕ → ℕ → Bool) where
-  pub both_none : (m : ℕ) → 2 ≤ m → ((i : ℕ) → i < m → lowest_failing n (test i) ≡ None) → option_or (lowest_failing n (test 0)) (lowest_failing n (test 1)) ≡ None
-  both_none m q h = ap₂ option_or (h 0 (omega arith)) (h 1 (omega arith))
+-- the tests of both streams, looked through one after the other
+pub either_here : (n : ℕ) (test : Stream → ℕ → Bool) (i v : ℕ) → i < 2 → ((j : ℕ) → j < i → lowest_failing n (test (get_or (One ∷ Two ∷ []) j One)) ≡ None) → lowest_failing n (test (get_or (One ∷ Two ∷ []) i One)) ≡ Some v → option_or (lowest_failing n (test One)) (lowest_failing n (test Two)) ≡ Some v
+either_here n test zero v q h e = ap (λ (o : Option ℕ). option_or o (lowest_failing n (test Two))) e
+either_here n test (suc zero) v q h e = ap₂ option_or (h 0 (omega arith)) e
+either_here n test (suc (suc i)) v q h e = absurd (omega arith)
 
-  pub either_here : (i v : ℕ) → i < 2 → ((j : ℕ) → j < i → lowest_failing n (test j) ≡ None) → lowest_failing n (test i) ≡ Some v → option_or (lowest_failing n (test 0)) (lowest_failing n (test 1)) ≡ Some v
-  either_here zero v q h e = ap (λ (o : Option ℕ). option_or o (lowest_failing n (test 1))) e
-  either_here (suc zero) v q h e = ap₂ option_or (h 0 (omega arith)) e
-  either_here (suc (suc i)) v q h e = absurd (omega arith)
+-- the first place of a list that passes is the lowest number that fails a test
+pub position_lowest : {X : Type 0} (p : X → Bool) (xs : List X) (test : ℕ → Bool) → ((k : ℕ) (d : X) → k < length xs → test k ≡ not (p (get_or xs k d))) → position p xs ≡ lowest_failing (length xs) test
+unfolding lowest_failing
+position_lowest p [] test same = refl
+position_lowest p (x ∷ xs) test same = by (cases_lt at (length (x ∷ xs)))
+  where
+    at : ℕ
+    at = position_or_len p (x ∷ xs)
+
+    before : (n : ℕ) → n ≤ length (x ∷ xs) → n ≤ at → lowest_failing n test ≡ None
+    before zero h q = none_yet test
+    before (suc n) h q = more n test (before n (omega arith) (omega arith)) (same n x (omega arith) ∙ ap not (fails_before_first p (x ∷ xs) n x (omega arith)))
+
+    by : (at < length (x ∷ xs)) ⊎ (length (x ∷ xs) ≤ at) → cond (ltb at (length (x ∷ xs))) (Some at) None ≡ lowest_failing (length (x ∷ xs)) test
+    by (inl h) = ap (λ (b : Bool). cond b (Some at) None) (lt-ltb at (length (x ∷ xs)) h) ∙ sym (lowest_here (length (x ∷ xs)) at test h (before at (omega arith) (omega arith)) (same at x h ∙ ap not (passes_at_first p (x ∷ xs) x h)))
+    by (inr h) = ap (λ (b : Bool). cond b (Some at) None) (le-ltb at (length (x ∷ xs)) h) ∙ sym (before (length (x ∷ xs)) (omega arith) h)

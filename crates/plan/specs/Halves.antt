@@ -5,7 +5,7 @@ use Rattle.flow.specs.declared.taps.Taps.{Taps}
 use Rattle.flow.specs.Ranges.{cabinets}
 use Rattle.flow.specs.Nets.{members}
 use Rattle.flow.specs.Answers.{Answer, fed}
-use Rattle.flow.specs.Drawings.{Halved, turned, Answered, made_side, SameSide}
+use Rattle.flow.specs.Drawings.{Halved, turned, Answered, made_side, SameSide, Drawn}
 use Rattle.engine.specs.declared.arc.Arc.{Arc}
 use Rattle.engine.specs.Arcs.{tail_of, head_of, limit_of}
 
@@ -32,10 +32,12 @@ pub record Bounds (p : Pairs) (x y : ℕ) (ls : List Arc) (total : ℕ) (side : 
 abbrev pub MadeOf : (p : Pairs) (ahead behind : ℕ) (first full turned_full cut : List Bool) → Type 0
 MadeOf p ahead behind first full turned_full cut = ((ahead ≤ behind) × SameSide (members cut) (made_side (members first) (members full) p)) ⊎ ((behind ≤ ahead) × SameSide (members cut) (made_side (members first) (members turned_full) (turned p)))
 
--- shares made of two flows, the second with stream 2 turned, that engines answered for stream 1 up to x and stream 2 up to y
-pub record Halves (p : Pairs) (x y : ℕ) (ls : List Arc) (fs gs : List ℤ) : Type 0 where
-  pub plus : Answer
-  pub plus_solved : Answered tail_of head_of limit_of cabinets p x y ls plus
-  pub minus : Answer
-  pub minus_solved : Answered tail_of head_of limit_of cabinets (turned p) x y ls minus
-  pub shares : Halved (length ls) plus.flow minus.flow fs gs
+-- an engine answered the job of stream 1 up to x and stream 2 up to y with this flow
+pub record Flows (p : Pairs) (x y : ℕ) (ls : List Arc) (fs : List ℤ) : Type 0 where
+  pub solution : Answer
+  pub solved : Answered tail_of head_of limit_of cabinets p x y ls solution
+  pub flow_is : solution.flow ≡ fs
+
+-- whatever shares are made of the two flows are a plan that was drawn, with these sides
+abbrev pub DrawnFlows : (p : Pairs) (ls : List Arc) (plus minus : List ℤ) (cut first : List Bool) → Type 0
+DrawnFlows p ls plus minus cut first = (fs gs : List ℤ) → Halved (length ls) plus minus fs gs → Drawn tail_of head_of limit_of p ls fs gs (members cut) (members first)

@@ -40,8 +40,8 @@ pub fn sum_side(first: &[bool; 64], full: &[bool; 64], pairs: Pairs) -> [bool; 6
     ensures { SameSide (members result) (made_side (members first.now) (members full.now) pairs) }
 {
     let mut side = [false; 64];
-    for cabinet in 0..64u8 {
-        side[usize::from(cabinet)] = is_in_cut(first, full, pairs, cabinet);
+    for (cabinet, held) in side.iter_mut().enumerate() {
+        *held = is_in_cut(first, full, pairs, cabinet as u8);
     }
     side
 }

@@ -21,11 +21,7 @@ pub fn halves<L: Edge>(links: &[L]) -> [Arc; 512]
     requires { length links.now ≤ most_links }
     ensures { take (length links.now) result ≡ map (half_arc L.Edge.low L.Edge.high L.Edge.capacity) links.now }
 {
-    let mut arcs = [Arc {
-        tail: 0,
-        head: 0,
-        limit: 0,
-    }; 512];
+    let mut arcs = [Arc::default(); 512];
     for (i, link) in links.iter().enumerate() {
         arcs[i] = half(link);
     }

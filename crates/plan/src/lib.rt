@@ -7,6 +7,7 @@ pub mod flaw;
 mod halves;
 mod jobs;
 pub mod judging;
+pub mod listed;
 mod shares;
 pub mod sides;
 pub mod theorems;

@@ -34,6 +34,7 @@ pub fn share_all(
     ensures beyond_one { drop (length arcs.now) one.new ≡ drop (length arcs.now) one.old }
     ensures beyond_two { drop (length arcs.now) two.new ≡ drop (length arcs.now) two.old }
 {
+    // Kept: the loop writes one place of two lists; after `iter_mut` under a zip nothing is known of them, and a pass for each list is no plainer.
     for i in 0..arcs.len() {
         let (first, second) = share(plus[i], minus[i]);
         one[i] = first;

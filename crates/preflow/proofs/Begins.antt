@@ -1,6 +1,6 @@
 -- The preflow to start from has valid heights, and the queue lines up with it.
 use Rattle.std.proofs.Common.{◌≡◌, ℕ, ◌+◌, ◌^◌, ◌<◌, ◌≤◌, Bool, true, false, cond, eqb, ltb, List, [], ◌∷◌, ◌++◌, length, get_or, replicate, ℤ, pos, ◌+ℤ◌, ◌-ℤ◌, nat_abs, sum, sym, ap, ◌∙◌, subst, ⊎_elim, arith}
-use Rattle.std.proofs.lemmas.List.{get_or_past, get_or-replicate, length-set, length-take}
+use Rattle.std.proofs.lemmas.List.{get_or_past, get_or-replicate, length-set}
 use Rattle.std.proofs.lemmas.Bool.{cases_eq, cases_lt, eq-eqb, ne_eqb, lt-ltb, le-ltb, cond-true, cond-false}
 use Rattle.flow.specs.declared.taps.Taps.{Taps}
 use Rattle.flow.specs.Ranges.{cabinets}
@@ -15,7 +15,6 @@ use Rattle.engine.specs.Arcs.{tail_of, head_of, Fits, Limited}
 use Rattle.preflow.specs.Heights.{high, Valid}
 use Rattle.preflow.specs.Sends.{given}
 use Rattle.preflow.specs.Starts.{begun, filled, Still, Lined, Distances}
-use Rattle.preflow.specs.Waits.{times, Queued}
 use Rattle.preflow.specs.States.{Labeled}
 use Rattle.preflow.proofs.Parts.{given_at, given_sum}
 use Rattle.preflow.proofs.Queues.{times_push, some, none}
@@ -110,19 +109,9 @@ module _ (ex : List ℕ) (n : ℕ) (qs : List ℕ) (lined : Lined ex n qs) where
       (cases_lt v n))
       (cases_eq n v)
 
-  pub lined_all : n ≡ 64 → length ex ≡ 64 → Queued ex qs
-  lined_all e wide v =
-      ⊎_elim
-      (λ (l : v < n). omega (arith, lined v, under v n l))
-      (λ (l : n ≤ v). omega (arith, lined v, over v n l, none (get_or ex v 0) (get_or_past ex v 0 (omega arith))))
-      (cases_lt v n)
-
-pub lined_none : (ex qs : List ℕ) → qs ≡ [] → Lined ex 0 qs
-lined_none ex qs e v = ap (times v) e ∙ sym (cond-false (ltb v 0) (cond (ltb 0 (get_or ex v 0)) 1 0) 0 (le-ltb v 0 (omega arith)))
-
 -- the numbers of a job are in range
 pub job_fits : (j : Job) → Fits (links_of j) j.at j.most
-job_fits j = record { few = omega (arith, j.few, length-take j.count j.arcs); sound = j.sound; placed = j.placed; limited = j.limited }
+job_fits j = record { few = j.few; sound = j.sound; placed = j.placed; limited = j.limited }
 
 pub job_begun : (j : Job) (fs : List ℤ) (hs : List ℕ) → length (links_of j) ≤ length fs → Still (length (links_of j)) fs → length hs ≡ cabinets → Distances (links_of j) j.at j.most hs → Labeled (links_of j) j.at j.most (begun j.most) fs (filled j.at j.most) hs
 job_begun j fs hs room still tall d =

@@ -16,7 +16,7 @@ use Rattle.engine.proofs.Arcs.{sound_inside}
 use Rattle.residual.specs.Meshes.{mesh_of, room_on, free}
 use Rattle.preflow.specs.Heights.{high, Empty, Valid, ValidFeed, ValidDrain}
 use Rattle.preflow.specs.States.{Excess}
-use Rattle.preflow.proofs.Levels.{level, row_of_levels, level_has}
+use Rattle.preflow.proofs.Levels.{level, row_of_levels, level_has, empty_of_none}
 use Rattle.preflow.proofs.Gathered.{gathered, only_up, sum_part}
 
 -- a link is full outward where it crosses, by cases of its two ends
@@ -110,7 +110,7 @@ module _ (ls : List Arc) (at most amount : Taps ℕ) (fits : Fits ls at most) (f
             (λ (none : level k hs < 1). ⊎_elim
             (λ (e : high hs v ≡ k). level_has hs v k (omega arith) e)
             (λ (ne : high hs v ≡ k → ⊥).
-            let dry : get_or ex v 0 ≡ 0 = gap_dry k lo (λ w l e. let one : 1 ≤ level k hs = level_has hs w k (omega arith) e in omega arith) v h (omega arith) in
+            let dry : get_or ex v 0 ≡ 0 = gap_dry k lo (empty_of_none hs k long none) v h (omega arith) in
             absurd (omega arith))
             (cases_eq (high hs v) k))
             (λ (some : 1 ≤ level k hs). some)

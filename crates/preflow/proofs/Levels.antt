@@ -1,6 +1,8 @@
 -- So many levels in a row that each holds one of the numbers of a list are at most as many as the numbers.
 use Rattle.std.proofs.Common.{◌≡◌, ℕ, zero, suc, ◌+◌, ◌<◌, ◌≤◌, Bool, true, false, cond, eqb, ltb, leb, List, [], ◌∷◌, length, get_or, refl, ap, ◌∙◌, ⊎_elim, arith}
 use Rattle.std.proofs.lemmas.Bool.{eq-eqb, ne_eqb, lt-ltb, le-ltb, le-leb, lt-leb, cases_eq, cases_lt}
+use Rattle.flow.specs.Ranges.{cabinets}
+use Rattle.preflow.specs.Heights.{Empty}
 
 -- how many numbers stand at level k
 abbrev pub level : ℕ → List ℕ → ℕ
@@ -69,14 +71,19 @@ level_has [] i k h e = absurd (omega arith)
 level_has (x ∷ xs) zero k h e = omega (arith, hit x k e)
 level_has (x ∷ xs) (suc i) k h e = omega (arith, level_has xs i k (omega arith) e)
 
--- one more level that holds a number
-module _ (hs : List ℕ) (k : ℕ) (row : (j : ℕ) → 1 ≤ j → j < k → 1 ≤ level j hs) (w : ℕ) (w_in : w < length hs) (here : get_or hs w 0 ≡ k) where
-  pub row_more : (j : ℕ) → 1 ≤ j → j < k + 1 → 1 ≤ level j hs
-  row_more j lo hi =
-      ⊎_elim
-      (λ (e : k ≡ j). level_has hs w j w_in (here ∙ e))
-      (λ (ne : k ≡ j → ⊥). row j lo (omega arith))
-      (cases_eq k j)
+-- a level that none of the 64 cabinets stands at is empty
+pub empty_of_none : (hs : List ℕ) (k : ℕ) → length hs ≡ cabinets → level k hs < 1 → Empty hs k
+empty_of_none hs k long none w l e = omega (arith, level_has hs w k (omega arith) e)
 
-  pub row_short : k ≤ length hs
-  row_short = row_of_levels 1 k hs (λ j lo hi. row_more j lo (omega arith))
+-- a level that is not empty holds a cabinet
+pub held : (hs : List ℕ) (k : ℕ) → length hs ≡ cabinets → (Empty hs k → ⊥) → 1 ≤ level k hs
+held hs k long some =
+    ⊎_elim
+    (λ (none : level k hs < 1). absurd (some (empty_of_none hs k long none)))
+    (λ (one : 1 ≤ level k hs). one)
+    (cases_lt (level k hs) 1)
+
+-- past 64 levels that each hold a cabinet the next is empty
+pub empty_past : (hs : List ℕ) → length hs ≡ cabinets → ((j : ℕ) → 1 ≤ j → j < 65 → 1 ≤ level j hs) → Empty hs 65
+empty_past hs long row w l e =
+    omega (arith, row_of_levels 1 65 hs (λ j lo hi. ⊎_elim (λ (here : 65 ≡ j). level_has hs w j (omega arith) (e ∙ here)) (λ (ne : 65 ≡ j → ⊥). row j lo (omega arith)) (cases_eq 65 j)))

@@ -65,6 +65,10 @@ module _ (ls : List Arc) (at most amount : Taps ℕ) (fs : List ℤ) (ex hs : Li
       other_heights ls at most amount fs ex hs (set hs v m) s tall valid
       (λ w l. ⊎_elim (λ (e : w ≡ v). omega (arith, lifted_here hs v m long le w e, low_m)) (λ (ne : w ≡ v → ⊥). omega (arith, lifted_there hs v m long le w ne, s.low w l)) (cases_eq w v))
 
+  -- a way out of v goes down from 130 at most
+  pub lifted_most : m ≤ 130
+  lifted_most = low_m
+
   sum_up : sum hs < sum (set hs v m)
   sum_up = omega (arith, sum_by-set (λ x. x) hs v m 0 long)
 

@@ -15,9 +15,9 @@ use Rattle.residual.specs.Meshes.{mesh_of, ahead, toward, free, residual}
 use Rattle.residual.specs.Raising.{Moved}
 use Rattle.residual.proofs.Raising.{onward_more, raise_fits}
 use Rattle.preflow.specs.declared.way.Way.{Way}
-use Rattle.preflow.specs.declared.way.Way.TheVariants.{Over, Drain1, Drain2, Feed1, Feed2, Shut}
+use Rattle.preflow.specs.declared.way.Way.TheVariants.{Over, Drain1, Drain2, Feed1, Feed2}
 use Rattle.preflow.specs.Heights.{high, Valid}
-use Rattle.preflow.specs.Ways.{Leads}
+use Rattle.preflow.specs.Ways.{Open}
 use Rattle.preflow.specs.Sends.{carried, sent_flow, sent_amounts, reached, taken, moved, Sendable}
 use Rattle.preflow.specs.States.{Labeled, dot}
 use Rattle.preflow.proofs.Parts.{given_at, given_sum, given_dot, taken_at, taken_sum, taken_dot, times_more}
@@ -111,7 +111,7 @@ module _ (ls : List Arc) (at most amount : Taps ℕ) (fs : List ℤ) (ex hs : Li
   at_tap c v u by e = ap (λ k. only (eqb k u) (pos by)) e
 
   -- a push along an open way out of v
-  module _ (v m n by : ℕ) (v_in : v < cabinets) (level : high hs v ≡ m) (low : m ≤ 130) (some : 0 < by) (fits : by ≤ n) (le : by ≤ get_or ex v 0) where
+  module _ (v m n by : ℕ) (v_in : v < cabinets) (level : high hs v ≡ m) (some : 0 < by) (fits : by ≤ n) (le : by ≤ get_or ex v 0) where
     lv : v < length ex
     lv = omega (arith, s.wide)
 
@@ -121,7 +121,7 @@ module _ (ls : List Arc) (at most amount : Taps ℕ) (fs : List ℤ) (ex hs : Li
     part : (l : ℕ) → Step (residual ls fs n) v l → Step (residual ls fs by) v l
     part l step = record { listed = step.listed; touching = step.touching; clear = le-leb by (free ls fs v l) (omega (arith, leb-true n (free ls fs v l) step.clear)) }
 
-    pub sent_labeled : (way : Way) → Leads ls at most amount fs hs v m n way → Labeled ls at most (sent_amounts amount by way) (sent_flow ls fs v by way) (moved ex v by (reached ls v way)) hs
+    pub sent_labeled : (way : Way) → Open ls at most amount fs hs v m n way → Labeled ls at most (sent_amounts amount by way) (sent_flow ls fs v by way) (moved ex v by (reached ls v way)) hs
     sent_labeled (Over l) h = over_labeled v l by (part l h.0) le (level ∙ sym h.1)
     sent_labeled Drain1 h =
         let a = s.amounts in
@@ -145,21 +145,19 @@ module _ (ls : List Arc) (at most amount : Taps ℕ) (fs : List ℤ) (ex hs : Li
         let b : by ≤ amount.feed2 = omega (arith, h.3) in
         out_labeled (sent_amounts amount by Feed2) v by v_in le (a.0, omega (arith, a.1), a.2, a.3) (record { over = k.over; feed1 = k.feed1; feed2 = ((λ q. k.feed2.0 (omega arith)), (λ q. omega (arith, ap (high hs) h.0, h.1))); drain1 = k.drain1; drain2 = k.drain2 })
         (λ u. omega (arith, whole, ap (λ x. only (eqb at.feed2 u) (pos x)) (less_by amount.feed2 by b), only_more (eqb at.feed2 u) (amount.feed2 - by) by, at_tap at.feed2 v u by h.0)) (omega arith)
-    sent_labeled Shut h = absurd (omega arith)
 
     -- to an outer end
     out_falls : (k : ℕ) → k + 1 ≡ m → dot (taken ex v by) hs < dot ex hs
     out_falls k e = omega (arith, taken_dot ex hs v by lv lh le, times_more by (high hs v) k (level ∙ sym e))
 
-    pub sent_falls : (way : Way) → Leads ls at most amount fs hs v m n way → dot (moved ex v by (reached ls v way)) hs < dot ex hs
+    pub sent_falls : (way : Way) → Open ls at most amount fs hs v m n way → dot (moved ex v by (reached ls v way)) hs < dot ex hs
     sent_falls (Over l) h = over_falls v l by (part l h.0) le (level ∙ sym h.1) some
     sent_falls Drain1 h = out_falls 0 h.1
     sent_falls Drain2 h = out_falls 0 h.1
     sent_falls Feed1 h = out_falls 66 h.1
     sent_falls Feed2 h = out_falls 66 h.1
-    sent_falls Shut h = absurd (omega arith)
 
-    pub sendable : (way : Way) → Leads ls at most amount fs hs v m n way → Sendable ls fs amount ex v by way
+    pub sendable : (way : Way) → Open ls at most amount fs hs v m n way → Sendable ls fs amount ex v by way
     sendable (Over l) h =
         let listed = h.0.listed in
         let ends = step_ends ls s.fits.sound v l listed h.0.touching in
@@ -173,20 +171,17 @@ module _ (ls : List Arc) (at most amount : Taps ℕ) (fs : List ℤ) (ex hs : Li
     sendable Drain2 h = omega (arith, h.3, s.fits.limited.3)
     sendable Feed1 h = omega (arith, h.3)
     sendable Feed2 h = omega (arith, h.3)
-    sendable Shut h = absurd (omega arith)
 
-    pub sent_far : (way : Way) → Leads ls at most amount fs hs v m n way → Far v (reached ls v way)
+    pub sent_far : (way : Way) → Open ls at most amount fs hs v m n way → Far v (reached ls v way)
     sent_far (Over l) h = let ends = step_ends ls s.fits.sound v l h.0.listed h.0.touching in (ends.1, ends.2)
     sent_far Drain1 h = tt
     sent_far Drain2 h = tt
     sent_far Feed1 h = tt
     sent_far Feed2 h = tt
-    sent_far Shut h = tt
 
-    pub sent_beyond : (way : Way) → Leads ls at most amount fs hs v m n way → drop (length ls) (sent_flow ls fs v by way) ≡ drop (length ls) fs
+    pub sent_beyond : (way : Way) → Open ls at most amount fs hs v m n way → drop (length ls) (sent_flow ls fs v by way) ≡ drop (length ls) fs
     sent_beyond (Over l) h = (one_link ls fs ex hs at most amount s v l by (part l h.0)).beyond
     sent_beyond Drain1 h = refl
     sent_beyond Drain2 h = refl
     sent_beyond Feed1 h = refl
     sent_beyond Feed2 h = refl
-    sent_beyond Shut h = refl

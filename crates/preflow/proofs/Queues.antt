@@ -2,10 +2,7 @@
 use Rattle.std.proofs.Common.{◌≡◌, ℕ, zero, suc, ◌+◌, ◌-◌, ◌<◌, ◌≤◌, Bool, true, false, cond, eqb, ltb, List, [], ◌∷◌, ◌++◌, length, get_or, drop, set, Some, None, Option, sym, refl, ap, ◌∙◌, subst, ⊎_elim, arith}
 use Rattle.std.proofs.lemmas.List.{get_or_past, get_or-set_same, get_or-set_other, length-set}
 use Rattle.std.proofs.lemmas.Bool.{cases_eq, cases_lt, eq-eqb, ne_eqb, lt-ltb, le-ltb, cond-true, cond-false}
-use Rattle.search.specs.declared.queue.Queue.{Queue}
-use Rattle.search.specs.Rings.{Pushed, Popped}
-use Rattle.search.specs.Queues.{items, room}
-use Rattle.search.proofs.Rings.{length_held}
+use Rattle.search.specs.Rings.{Pushed}
 use Rattle.preflow.specs.Waits.{times, Queued, arrived, parted, settled}
 use Rattle.preflow.specs.Sends.{taken, given, moved}
 
@@ -77,10 +74,6 @@ module _ (ex qs : List ℕ) (wide : length ex ≡ 64) (queued : Queued ex qs) wh
 
   pub queued_turn : (v : ℕ) (rest : List ℕ) → qs ≡ v ∷ rest → Queued ex (rest ++ v ∷ [])
   queued_turn v rest e u = omega (arith, times_push u rest v, ap (times u) e, queued u)
-
-  pub queued_none : qs ≡ [] → (v : ℕ) → get_or ex v 0 ≡ 0
-  queued_none e v =
-      ⊎_elim (λ (l : 0 < get_or ex v 0). absurd (omega (arith, queued v, some (get_or ex v 0) l, ap (times v) e))) (λ (z : get_or ex v 0 ≤ 0). omega arith) (cases_lt 0 (get_or ex v 0))
 
 drop_one : (v : ℕ) (rest qs : List ℕ) (u : ℕ) → qs ≡ v ∷ rest → times u (drop 1 qs) + cond (eqb v u) 1 0 ≡ times u qs
 drop_one v rest qs u e = omega (arith, ap (λ (t : List ℕ). times u (drop 1 t)) e, ap (times u) e)
@@ -185,20 +178,6 @@ pub queued_settled : (ex qs : List ℕ) (v by : ℕ) (to : Option ℕ) → qs �
 queued_settled ex qs v by None front full queued wide v_in pos_by far = settled_out ex qs v by front full queued
 queued_settled ex qs v by (Some w) front full queued wide v_in pos_by far = settled_over ex qs v by front full queued w wide v_in far.0 far.1 pos_by
 
--- what a pop and a push do to the queue
-pub popped_drop : (before after : List ℕ) (r : Option ℕ) → Popped before r after → after ≡ drop 1 before
-popped_drop before after None p = p.1 ∙ ap (λ (t : List ℕ). drop 1 t) (sym p.0)
-popped_drop before after (Some x) p = ap (λ (t : List ℕ). drop 1 t) (sym p)
-
 pub pushed_on : (before after : List ℕ) (x n : ℕ) (b : Bool) → Pushed before x b after n → length before < n → after ≡ before ++ (x ∷ [])
 pushed_on before after x n true p h = p.0
 pushed_on before after x n false p h = absurd (omega (arith, p.1))
-
-pub requeued : (before mid after : List ℕ) (v n : ℕ) (r : Option ℕ) (b : Bool) → before ≡ v ∷ drop 1 before → length before ≤ n → Popped before r mid → Pushed mid v b after n → after ≡ drop 1 before ++ (v ∷ [])
-requeued before mid after v n r b front fits p q =
-    let e = popped_drop before mid r p in
-    pushed_on mid after v n b q (omega (arith, ap length e, ap length front)) ∙ ap (λ (t : List ℕ). t ++ (v ∷ [])) e
-
--- a queue holds at most as many items as it has places
-pub items_fit : {T : Type 0} (q : Queue T) → length (items q) ≤ room q
-items_fit q = let starts = q.starts in let fits = q.fits in omega (arith, length_held q.places.now q.head q.len (omega arith) fits)

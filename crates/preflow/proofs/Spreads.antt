@@ -1,9 +1,9 @@
 -- The backward search from the drains, level by level, before anything flows.
-use Rattle.std.proofs.Common.{◌≡◌, ℕ, ◌+◌, ◌<◌, ◌≤◌, Bool, true, false, eqb, leb, List, [], length, get_or, take, replicate, ℤ, pos, sym, refl, ap, ◌∙◌, subst, inl, inr, ⊎_elim, arith}
+use Rattle.std.proofs.Common.{◌≡◌, ℕ, ◌+◌, ◌<◌, ◌≤◌, Bool, true, false, eqb, leb, List, [], length, get_or, take, replicate, ℤ, pos, sym, refl, ap, ◌∙◌, subst, inl, inr, arith}
 use Rattle.std.specs.List.{AllByRecursion}
 use Rattle.std.proofs.lemmas.List.{get_or-replicate}
 use Rattle.std.proofs.ByRecursion.{All-more, All-weaker}
-use Rattle.std.proofs.lemmas.Bool.{leb-true, eq-eqb, or_left, or_right, cases_eq}
+use Rattle.std.proofs.lemmas.Bool.{leb-true, eq-eqb, or_left, or_right}
 use Rattle.flow.specs.declared.taps.Taps.{Taps}
 use Rattle.flow.specs.Ranges.{cabinets}
 use Rattle.flow.proofs.Sums.{whole}
@@ -14,7 +14,6 @@ use Rattle.engine.specs.Arcs.{blank, AllSound}
 use Rattle.residual.specs.Meshes.{mesh_of, ahead, room_on, free, residual}
 use Rattle.preflow.specs.Heights.{high, Valid}
 use Rattle.preflow.specs.Starts.{begun, Still, Into, Lowered, Settled, Distances}
-use Rattle.preflow.proofs.Labels.{step_ends}
 
 module _ (k : ℕ) where
   pub lowered_le : (hs after : List ℕ) → Lowered k hs after → (w : ℕ) → w < cabinets → high after w ≤ high hs w
@@ -30,13 +29,6 @@ module _ (k : ℕ) where
       | inr f ↦ inr (e ∙ f.0, f.1)
     ]
     | inr e ↦ inr (e.0, omega (arith, e.1, lowered_le hs mid h w l))
-  ]
-
-  -- what stands below k stands where it stood
-  pub lowered_back : (hs after : List ℕ) → Lowered k hs after → (w : ℕ) → w < cabinets → high after w < k → high hs w ≡ high after w
-  lowered_back hs after h w l lt = elim (h w l) [
-    | inl e ↦ sym e
-    | inr e ↦ absurd (omega (arith, e.0))
   ]
 
 -- the other end of a link is an end of it, and its other end is the first
@@ -57,10 +49,6 @@ free_none n true = omega (arith, whole)
 free_none n false = omega (arith, whole)
 
 module _ (ls : List Arc) (sound : AllSound ls) where
-  pub into_less : (hs after : List ℕ) (x m : ℕ) → ((w : ℕ) → w < cabinets → high after w ≤ high hs w) → Into ls hs x m → Into ls after x m
-  into_less hs after x m le h u l step e =
-      omega (arith, h u l step e, le u (step_ends ls sound u l step.listed step.touching).0)
-
   -- what holds of the links of a row holds of all steps into its cabinet
   pub into_row : (hs : List ℕ) (v m : ℕ) → AllByRecursion (λ l. 0 < (get_or ls l blank).limit → high hs (across (mesh_of ls) v l) ≤ m) (incident (mesh_of ls) v) → Into ls hs v m
   into_row hs v m all u l step e =
@@ -75,36 +63,7 @@ module _ (ls : List Arc) (sound : AllSound ls) where
       (All-weaker (λ l. (l < length ls) × (0 < (get_or ls l blank).limit → high hs (across (mesh_of ls) v l) ≤ m)) (λ l. (l < length ls) × (0 < (get_or ls l blank).limit → high after (across (mesh_of ls) v l) ≤ m)) (λ l p. (p.0, λ some. omega (arith, p.1 some, lowered_le m hs after low (across (mesh_of ls) v l) (in_range l p.0)))) (take i row) seen)
       (listed, here)
 
-  -- one cabinet more of a level
-  pub level_more : (hs after : List ℕ) (d v : ℕ) → Lowered (d + 1) hs after → v < cabinets → ((x : ℕ) → x < v → high hs x ≡ d → Into ls hs x (d + 1)) → (high after v ≡ d → Into ls after v (d + 1)) → (x : ℕ) → x < v + 1 → high after x ≡ d → Into ls after x (d + 1)
-  level_more hs after d v low v_in seen here x lt e =
-      ⊎_elim
-      (λ (q : x ≡ v). subst (λ w. Into ls after w (d + 1)) (sym q) (here (subst (λ w. high after w ≡ d) q e)))
-      (λ (ne : x ≡ v → ⊥). into_less hs after x (d + 1) (lowered_le (d + 1) hs after low) (seen x (omega arith) (lowered_back (d + 1) hs after low x (omega arith) (omega arith) ∙ e)))
-      (cases_eq x v)
-
   module _ (at most : Taps ℕ) (placed_1 : at.drain1 < cabinets) (placed_2 : at.drain2 < cabinets) where
-    -- one level more
-    pub settled_more : (hs after : List ℕ) (d : ℕ) → d < 67 → Settled ls at most hs d → Lowered (d + 1) hs after → ((x : ℕ) → x < cabinets → high after x ≡ d → Into ls after x (d + 1)) → Settled ls at most after (d + 1)
-    settled_more hs after d lt s low here =
-        let le = lowered_le (d + 1) hs after low in
-        record {
-          top = λ w h. omega (arith, le w h, s.top w h);
-          far = λ w h more. elim (low w h) [
-            | inl e ↦ e ∙ s.far w h (omega arith)
-            | inr e ↦ absurd (omega (arith, e.0))
-          ];
-          into = λ x h less.
-              let was : high hs x ≡ high after x = lowered_back (d + 1) hs after low x h less in
-              ⊎_elim
-              (λ (e : high after x ≡ d). subst (λ n. Into ls after x (n + 1)) (sym e) (here x h e))
-              (λ (ne : high after x ≡ d → ⊥).
-              subst (λ n. Into ls after x (n + 1)) was (into_less hs after x (high hs x + 1) le (s.into x h (omega arith))))
-              (cases_eq (high after x) d);
-          drain1 = λ some. omega (arith, s.drain1 some, le at.drain1 placed_1);
-          drain2 = λ some. omega (arith, s.drain2 some, le at.drain2 placed_2);
-        }
-
     -- the drains at 1, all others at 67
     pub settled_none : (hs : List ℕ) → Lowered 1 (replicate 64 67) hs → (0 < most.drain1 → high hs at.drain1 ≤ 1) → (0 < most.drain2 → high hs at.drain2 ≤ 1) → Settled ls at most hs 1
     settled_none hs low d1 d2 =

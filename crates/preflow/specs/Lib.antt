@@ -4,3 +4,4 @@ pub mod Sends
 pub mod Waits
 pub mod States
 pub mod Starts
+pub mod Runs

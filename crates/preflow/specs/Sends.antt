@@ -6,7 +6,7 @@ use Rattle.search.specs.Graphs.{across}
 use Rattle.engine.specs.declared.arc.Arc.{Arc}
 use Rattle.residual.specs.Meshes.{mesh_of, ahead, toward}
 use Rattle.preflow.specs.declared.way.Way.{Way}
-use Rattle.preflow.specs.declared.way.Way.TheVariants.{Over, Drain1, Drain2, Feed1, Feed2, Shut}
+use Rattle.preflow.specs.declared.way.Way.TheVariants.{Over, Drain1, Drain2, Feed1, Feed2}
 
 -- the flow with `by` more from v over the link l
 abbrev pub carried : List Arc → List ℤ → (v l by : ℕ) → List ℤ
@@ -18,7 +18,6 @@ sent_flow ls fs v by Drain1 = fs
 sent_flow ls fs v by Drain2 = fs
 sent_flow ls fs v by Feed1 = fs
 sent_flow ls fs v by Feed2 = fs
-sent_flow ls fs v by Shut = fs
 
 -- a drain takes more, a feed takes back
 abbrev pub sent_amounts : Taps ℕ → ℕ → Way → Taps ℕ
@@ -27,7 +26,6 @@ sent_amounts a by Drain1 = record { feed1 = a.feed1; feed2 = a.feed2; drain1 = a
 sent_amounts a by Drain2 = record { feed1 = a.feed1; feed2 = a.feed2; drain1 = a.drain1; drain2 = a.drain2 + by }
 sent_amounts a by Feed1 = record { feed1 = a.feed1 - by; feed2 = a.feed2; drain1 = a.drain1; drain2 = a.drain2 }
 sent_amounts a by Feed2 = record { feed1 = a.feed1; feed2 = a.feed2 - by; drain1 = a.drain1; drain2 = a.drain2 }
-sent_amounts a by Shut = a
 
 -- the cabinet that a way out of v leads to, if it is not an outer end
 abbrev pub reached : List Arc → ℕ → Way → Option ℕ
@@ -36,7 +34,6 @@ reached ls v Drain1 = None
 reached ls v Drain2 = None
 reached ls v Feed1 = None
 reached ls v Feed2 = None
-reached ls v Shut = None
 
 -- the excess with `by` less at v
 abbrev pub taken : List ℕ → (v by : ℕ) → List ℕ
@@ -58,4 +55,3 @@ Sendable ls fs a ex v by Drain1 = a.drain1 + by < 2 ^ 32
 Sendable ls fs a ex v by Drain2 = a.drain2 + by < 2 ^ 32
 Sendable ls fs a ex v by Feed1 = by ≤ a.feed1
 Sendable ls fs a ex v by Feed2 = by ≤ a.feed2
-Sendable ls fs a ex v by Shut = ⊥

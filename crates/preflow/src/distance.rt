@@ -1,7 +1,6 @@
 // The heights to start from: distances to the drains, by one backward search, level by level.
 ghost use Rattle.std.specs.Prelude.{◌≡◌, ℕ, ◌+◌, ◌<◌, ◌≤◌, length, replicate, slice_index_or};
 ghost use Rattle.flow.specs.Ranges.{cabinets};
-ghost use Rattle.flow.specs.Answers.{Placed};
 ghost use Rattle.search.specs.Graphs.{across};
 ghost use Rattle.engine.specs.Arcs.{blank};
 ghost use Rattle.residual.specs.Meshes.{mesh_of};
@@ -9,10 +8,10 @@ ghost use Rattle.residual.specs.Networks.{links_in};
 ghost use Rattle.preflow.specs.Heights.{high};
 ghost use Rattle.preflow.specs.Starts.{Into, Lowered, Distances};
 
-use crate::lowest::far_end;
-use crate::relabel::standing;
-use flow::taps::Taps;
+use crate::relabel::is_level_empty;
+use engine::job::Job;
 use residual::network::Network;
+use residual::raise::far_end;
 
 // Lowers a cabinet to `height`, if it stands higher.
 fn lower_to(heights: &mut [u8; 64], at: u8, height: u8)
@@ -43,7 +42,7 @@ fn reach_all(network: &Network<'_>, heights: &mut [u8; 64], at: u8, height: u8)
     ensures lowered { Lowered height heights.old heights.new }
     ensures into { Into (links_in network.now) heights.new at height }
 {
-    for link in network.index.row(at) {
+    for link in network.row(at) {
         reach(network, heights, at, *link, height);
     }
 }
@@ -54,9 +53,10 @@ fn next_level(network: &Network<'_>, heights: &mut [u8; 64], level: u8)
     ensures lowered { Lowered (level + 1) heights.old heights.new }
     ensures into { (x : ℕ) → x < 64 → high heights.new x ≡ level → Into (links_in network.now) heights.new x (level + 1) }
 {
-    for v in 0..64u8 {
-        if heights[v as usize] == level {
-            reach_all(network, heights, v, level + 1);
+    // Kept: a step of the loop lowers the heights that the loop reads, so it cannot borrow them.
+    for cabinet in 0..64u8 {
+        if heights[cabinet as usize] == level {
+            reach_all(network, heights, cabinet, level + 1);
         }
     }
 }
@@ -73,13 +73,14 @@ fn drain_from(heights: &mut [u8; 64], at: u8, most: u32)
 }
 
 // The drains that can take something at height 1, and all other cabinets at 67.
-fn drained(at: Taps<u8>, most: Taps<u32>) -> [u8; 64]
-    requires { Placed cabinets at }
+fn drained(job: &Job<'_>) -> [u8; 64]
     ensures long { length result ≡ 64 }
     ensures lowered { Lowered 1 (replicate 64 67) result }
-    ensures drain1 { 0 < most.drain1 → high result at.drain1 ≤ 1 }
-    ensures drain2 { 0 < most.drain2 → high result at.drain2 ≤ 1 }
+    ensures drain1 { 0 < job.now.most.drain1 → high result job.now.at.drain1 ≤ 1 }
+    ensures drain2 { 0 < job.now.most.drain2 → high result job.now.at.drain2 ≤ 1 }
 {
+    let at = job.at();
+    let most = job.most();
     let mut heights = [67; 64];
     drain_from(&mut heights, at.drain1, most.drain1);
     drain_from(&mut heights, at.drain2, most.drain2);
@@ -91,9 +92,9 @@ pub fn distances(network: &Network<'_>) -> [u8; 64]
     ensures long { length result ≡ 64 }
     ensures distances { Distances (links_in network.now) network.now.job.now.at network.now.job.now.most result }
 {
-    let mut heights = drained(network.job.at(), network.job.most());
+    let mut heights = drained(network.job);
     for level in 1..66u8 {
-        if let None = standing(&heights, level) {
+        if is_level_empty(&heights, level) {
             return heights;
         }
         next_level(network, &mut heights, level);

@@ -1,17 +1,12 @@
 // Lifting a cabinet.
-ghost use Rattle.std.specs.Prelude.{◌≡◌, ◌<◌, MatchOption, slice_set};
-ghost use Rattle.preflow.specs.Heights.{high, Empty, over_top, Raised, Relabeled};
+ghost use Rattle.std.specs.Prelude.{◌≡◌, ◌<◌, ◌↔◌, IsTrue, length, slice_set};
+ghost use Rattle.preflow.specs.Heights.{Empty, over_top, Raised, Relabeled};
 
-// A cabinet at the level `level`, if there is one.
-pub fn standing(heights: &[u8; 64], level: u8) -> Option<usize>
-    ensures { MatchOption result (Empty heights.now level) (λ w. (w < 64) × (high heights.now w ≡ level)) }
+// Whether no cabinet stands at a level.
+pub fn is_level_empty(heights: &[u8; 64], level: u8) -> bool
+    ensures { IsTrue result ↔ Empty heights.now level }
 {
-    for v in 0..64 {
-        if heights[v] == level {
-            return Some(v);
-        }
-    }
-    None
+    heights.iter().all(|height| *height != level)
 }
 
 // A height above `level` becomes 67 at least.
@@ -29,8 +24,8 @@ fn over_top(height: u8, level: u8) -> u8
 fn raise_above(heights: &mut [u8; 64], level: u8)
     ensures { Raised level heights.old heights.new }
 {
-    for v in 0..64 {
-        heights[v] = over_top(heights[v], level);
+    for height in heights.iter_mut() {
+        *height = over_top(*height, level);
     }
 }
 
@@ -46,13 +41,12 @@ fn lift(heights: &mut [u8; 64], at: u8, height: u8)
 // is cut off from the drains: it is raised past the outer source, so that it soon flows back to the feeds.
 pub fn relabel(heights: &mut [u8; 64], at: u8, height: u8)
     requires { at < 64 }
-    ensures { Relabeled heights.old at height heights.new }
+    ensures relabeled { Relabeled heights.old at height heights.new }
+    ensures tall { length heights.new ≡ 64 }
 {
     let level = heights[at as usize];
     lift(heights, at, height);
-    if level > 0 && level < 66 {
-        if let None = standing(heights, level) {
-            raise_above(heights, level);
-        }
+    if level > 0 && level < 66 && is_level_empty(heights, level) {
+        raise_above(heights, level);
     }
 }

@@ -3,7 +3,7 @@ ghost use Rattle.std.specs.Prelude.{◌≡◌, ℕ, ◌<◌, ◌≤◌, nat_lt};
 ghost use Rattle.flow.specs.Nets.{members};
 ghost use Rattle.preflow.specs.Heights.{high, Empty};
 
-use crate::relabel::standing;
+use crate::relabel::is_level_empty;
 
 // The least level from 1 on at which no cabinet stands.
 pub fn gap(heights: &[u8; 64]) -> u8
@@ -11,18 +11,19 @@ pub fn gap(heights: &[u8; 64]) -> u8
     ensures low { result ≤ 65 }
     ensures empty { Empty heights.now result }
 {
-    let mut level = 1;
-    while let Some(_) = standing(heights, level) {
-        level += 1;
+    for level in 1..65 {
+        if is_level_empty(heights, level) {
+            return level;
+        }
     }
-    level
+    65
 }
 
 // The cabinets above a level make the side.
 pub fn tell(heights: &[u8; 64], level: u8, side: &mut [bool; 64])
     ensures { (w : ℕ) → w < 64 → members side.new w ≡ nat_lt level (high heights.now w) }
 {
-    for v in 0..64 {
-        side[v] = heights[v] > level;
+    for (v, inside) in side.iter_mut().enumerate() {
+        *inside = heights[v] > level;
     }
 }

@@ -1,4 +1,4 @@
-// A way out of a cabinet: over a link, into a drain, or back into a feed; `Shut` stands for none.
+// A way out of a cabinet: over a link, into a drain, or back into a feed.
 #[derive(Clone, Copy)]
 pub enum Way {
     Over(u16),
@@ -6,7 +6,6 @@ pub enum Way {
     Drain2,
     Feed1,
     Feed2,
-    Shut,
 }
 
 // A way, the height from which it goes down by one, and how much more can go there.

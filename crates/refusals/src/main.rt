@@ -127,24 +127,15 @@ fn told(heap: Global, file: &[u8]) -> Result<String, AllocError> {
 
 // A file of as many bytes as are asked for, full of orders without a body.
 fn draws(heap: Global, bytes: usize) -> Result<Vec<u8>, AllocError> {
-    let mut file = Vec::new(heap);
-    for i in 0..bytes {
-        file.push(if i % 2 == 0 { b'P' } else { b'L' })?;
-    }
-    Ok(file)
+    b"PL".iter().copied().cycle().take(bytes).collect(heap)
 }
 
 // A file with links on different pairs of cabinets, as many as are asked for.
 fn links(heap: Global, count: usize) -> Result<Vec<u8>, AllocError> {
     let mut file = Vec::new(heap);
-    let mut left = count;
-    for high in 1..64u8 {
-        for low in 0..high {
-            if left > 0 {
-                left -= 1;
-                file.extend_from_slice(&[b'L', b'K', low, high, 0, 0, 0, 2])?;
-            }
-        }
+    let pairs = (1..64u8).flat_map(|high| (0..high).map(move |low| (low, high)));
+    for (low, high) in pairs.take(count) {
+        file.extend_from_slice(&[b'L', b'K', low, high, 0, 0, 0, 2])?;
     }
     Ok(file)
 }

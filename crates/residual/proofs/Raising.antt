@@ -1,7 +1,7 @@
 -- The least free amount of a path, and the steps of the loop that raises the flow along it.
 use Rattle.std.proofs.Common.{◌≡◌, ℕ, ◌+◌, ◌<◌, ◌≤◌, min, Bool, true, false, cond, eqb, leb, ◌⊎◌, List, [], ◌∷◌, length, get_or, drop, set, ℤ, pos, ◌+ℤ◌, ◌-ℤ◌, neg_ℤ, nat_abs, sym, refl, ap, ◌∙◌, subst, inl, inr, arith}
 use Rattle.std.specs.List.{AllByRecursion}
-use Rattle.std.proofs.lemmas.List.{get_or-set_other, drop-set-lt, drop_more, drop_all}
+use Rattle.std.proofs.lemmas.List.{get_or-set_other, drop-set-lt, drop_more}
 use Rattle.std.proofs.lemmas.Bool.{eqb-true, eqb-false, leb-true, le-leb}
 use Rattle.flow.specs.Ranges.{most_limit}
 use Rattle.flow.specs.Nets.{only, net}
@@ -116,12 +116,6 @@ onward_more ls was fs x u at w l rest fs' at' long o e q =
 
 pub onward_at : (ls : List Arc) (was fs : List ℤ) (x u at w : ℕ) (path : List ℕ) (i : ℕ) → i < length path → Onward ls was fs x u at w (drop i path) → Onward ls was fs x u at w (get_or path i 0 ∷ drop (i + 1) path)
 onward_at ls was fs x u at w path i h o = subst (Onward ls was fs x u at w) (drop_more path i 0 h) o
-
--- the whole path is raised
-pub onward_all : (ls : List Arc) (was fs : List ℤ) (x u at w : ℕ) (path : List ℕ) (i : ℕ) → length path ≤ i → Onward ls was fs x u at w (drop i path) → Moved ls was fs x u w
-onward_all ls was fs x u at w path i h o =
-    let end : Onward ls was fs x u at w [] = subst (Onward ls was fs x u at w) (drop_all i path h) o in
-    subst (Moved ls was fs x u) end.route.arrives end.moved
 
 -- what one push asks
 pub push_fits : (ls : List Arc) (was fs : List ℤ) (x u at w l : ℕ) (rest : List ℕ) → AllSound ls → Onward ls was fs x u at w (l ∷ rest) → (nat_abs (get_or fs l (pos 0)) ≤ most_limit) × (nat_abs (get_or fs l (pos 0) +ℤ toward (ahead ls at l) (pos x)) ≤ most_limit)

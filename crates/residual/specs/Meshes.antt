@@ -1,5 +1,5 @@
 -- The residual network: what a flow leaves free on the links of a job.
-use Rattle.std.specs.Prelude.{ℕ, Bool, cond, List, get_or, ℤ, pos, ◌-ℤ◌, neg_ℤ, ◌==◌, nat_le, slice_index_or, unsigned_abs}
+use Rattle.std.specs.Prelude.{ℕ, Bool, if◌then◌else◌, List, ℤ, pos, ◌-ℤ◌, neg_ℤ, ◌==◌, nat_le, slice_index_or, unsigned_abs}
 use Rattle.search.specs.Graphs.{Mesh, mesh_by, Graph}
 use Rattle.engine.specs.declared.arc.Arc.{Arc}
 use Rattle.engine.specs.Arcs.{blank, tail_of, head_of}
@@ -10,11 +10,11 @@ mesh_of ls = mesh_by tail_of head_of blank ls
 
 -- the step from the cabinet u over the link l goes from tail to head
 abbrev pub ahead : List Arc → ℕ → ℕ → Bool
-ahead ls u l = (get_or ls l blank).tail == u
+ahead ls u l = (slice_index_or ls l blank).tail == u
 
 -- f as it counts in the direction of a step
 abbrev pub toward : Bool → ℤ → ℤ
-toward b f = cond b f (neg_ℤ f)
+toward b f = (if b then f else neg_ℤ f)
 
 -- what a link with a limit and a flow f within it has left in the direction of a step
 abbrev pub room_on : ℕ → ℤ → Bool → ℕ
@@ -22,7 +22,7 @@ room_on limit f b = unsigned_abs (pos limit -ℤ toward b f)
 
 -- how much more can go from the cabinet u over the link l
 abbrev pub free : List Arc → List ℤ → ℕ → ℕ → ℕ
-free ls fs u l = room_on (get_or ls l blank).limit (slice_index_or fs l (pos 0)) (ahead ls u l)
+free ls fs u l = room_on (slice_index_or ls l blank).limit (slice_index_or fs l (pos 0)) (ahead ls u l)
 
 -- the steps over which x more can go
 abbrev pub residual : List Arc → List ℤ → ℕ → Graph

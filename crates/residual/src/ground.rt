@@ -12,15 +12,11 @@ impl<'a> Ground for Residual<'a> {
     ghost lawful = { lawful_of };
 
     fn links(&self) -> u16 {
-        self.network.job.links().len() as u16
+        self.network.net.count()
     }
 
     fn ends(&self, link: u16) -> Ends {
-        let arc = self.network.job.links()[link as usize];
-        Ends {
-            first: arc.tail,
-            second: arc.head,
-        }
+        self.network.net.ends(link)
     }
 
     fn is_open(&self, cabinet: u8, link: u16) -> bool {
@@ -28,6 +24,6 @@ impl<'a> Ground for Residual<'a> {
     }
 
     fn links_at(&self, cabinet: u8) -> &[u16] {
-        self.network.index.row(cabinet)
+        self.network.row(cabinet)
     }
 }

@@ -13,12 +13,13 @@ ghost use Rattle.residual.specs.Raising.{least, Route, Moved};
 use crate::residual::Residual;
 use engine::arc::Arc;
 use engine::job::Job;
+use search::links::Joins;
 
 // The end of a link that is not the cabinet `at`.
-fn far_end(arc: Arc, at: u8) -> u8
+pub fn far_end(arc: Arc, at: u8) -> u8
     ensures { result ≡ (if nat_eq arc.tail at then arc.head else arc.tail) }
 {
-    if arc.tail == at { arc.head } else { arc.tail }
+    arc.ends().other(at)
 }
 
 // The lesser of two amounts.
@@ -56,7 +57,7 @@ fn raised(flow: i32, ahead: bool, by: u32) -> i32
 }
 
 // Sends `by` more from a cabinet over a link, and tells where that leads.
-fn push(job: &Job, flow: &mut [i32; 512], at: u8, link: u16, by: u32) -> u8
+pub fn push(job: &Job<'_>, flow: &mut [i32; 512], at: u8, link: u16, by: u32) -> u8
     requires listed { link < length (links_of job.now) }
     requires was { unsigned_abs (slice_index_or flow.old link (pos 0)) ≤ most_limit }
     requires fits { unsigned_abs (slice_index_or flow.old link (pos 0) +ℤ toward (ahead (links_of job.now) at link) (pos by)) ≤ most_limit }
@@ -69,7 +70,7 @@ fn push(job: &Job, flow: &mut [i32; 512], at: u8, link: u16, by: u32) -> u8
 }
 
 // Sends `by` more over each link of a path on which there is room for it.
-pub fn raise(job: &Job, flow: &mut [i32; 512], from: u8, path: &[u16], by: u32)
+pub fn raise(job: &Job<'_>, flow: &mut [i32; 512], from: u8, path: &[u16], by: u32)
     requires route { Route (links_of job.now) flow.old by from path.now (destination (residual (links_of job.now) flow.old by) from path.now) }
     requires within { Within limit_of (links_of job.now) flow.old }
     ensures { Moved (links_of job.now) flow.old flow.new by from (destination (residual (links_of job.now) flow.old by) from path.now) }

@@ -2,6 +2,7 @@
 #![tactic(auto)]
 
 use augmenting::augmenting::Augmenting;
+use engine::arc::Arc;
 use engine::greatest::greatest_total;
 use engine::trim::Trim;
 use preflow::preflow::Preflow;
@@ -9,6 +10,7 @@ use samples::jobs::{Shape, next_job};
 use samples::random::Random;
 use std::io;
 
+// Kept: each number of this shape differs from the pile's, so a shared function would take five of them and say less.
 // The shape of a job: from two cabinets to 64, from few links to 512; small limits, so that many are 0, and wide ones in turn.
 fn shape_of(number: u8) -> Shape {
     let limits = if number % 2 == 0 { 3 } else { 524_288 };
@@ -33,8 +35,9 @@ fn main(rt: HostRuntime) -> io::Result<()> {
         below: Trim { below: Preflow },
     };
     let mut random = Random { state: 11 };
+    let mut room = [Arc::default(); 512];
     for number in 0..100u8 {
-        match next_job(&mut random, shape_of(number)) {
+        match next_job(&mut random, shape_of(number), &mut room) {
             Some(job) => {
                 let pushed = greatest_total(&mut Preflow, &job);
                 let raised = greatest_total(&mut Augmenting, &job);

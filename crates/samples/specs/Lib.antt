@@ -1,2 +1,3 @@
 pub mod Randoms
 pub mod Shapes
+pub mod Modes

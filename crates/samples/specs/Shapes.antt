@@ -6,7 +6,7 @@ use Rattle.engine.specs.Jobs.{links_of}
 use Rattle.samples.specs.declared.jobs.Shape.{Shape}
 
 -- there are jobs of the shape
-pub record Usable (s : Shape) : Type 0 where
+pub record IsUsable (s : Shape) : Type 0 where
   pub few : s.links ≤ most_links
   pub two : 2 ≤ s.cabinets
   pub known : s.cabinets ≤ cabinets
@@ -16,4 +16,4 @@ pub record Usable (s : Shape) : Type 0 where
 -- a job with as many links as the shape says, or none where it is not usable
 abbrev pub Shaped : Shape → Option Job → Type 0
 Shaped s (Some j) = length (links_of j) ≡ s.links
-Shaped s None = Usable s → ⊥
+Shaped s None = IsUsable s → ⊥

@@ -2,4 +2,5 @@
 #![tactic(auto)]
 
 pub mod jobs;
+pub mod mode;
 pub mod random;

@@ -1,5 +1,5 @@
 -- The passes that build the index: counts, starts, rows.
-use Rattle.std.proofs.Common.{◌≡◌, ℕ, zero, suc, ◌+◌, ◌-◌, ◌*◌, ◌<◌, ◌≤◌, Bool, true, false, cond, ◌||◌, eqb, List, [], ◌∷◌, ◌++◌, length, get_or, take, drop, set, replicate, sum, count_by, filter, sym, refl, ap, ◌∙◌, subst, inl, inr, arith, below_more}
+use Rattle.std.proofs.Common.{◌≡◌, ℕ, zero, suc, ◌+◌, ◌-◌, ◌*◌, ◌<◌, ◌≤◌, Bool, true, false, cond, ◌||◌, eqb, List, [], ◌∷◌, ◌++◌, length, get_or, take, drop, set, replicate, sum, count_by, filter, sym, refl, ap, ◌∙◌, subst, inl, inr, arith}
 use Rattle.std.specs.List.{between, range_with_len}
 use Rattle.std.proofs.lemmas.List.FromFn.{length-range_with_len, map-range_with_len_more, take-map-range_with_len}
 use Rattle.std.proofs.lemmas.List.Elements.{filter-append}
@@ -106,15 +106,6 @@ counting_none m = record { long = refl; each = λ v h. get_or-replicate 64 v 0 0
 pub counting_low : (m : Mesh) (counts : List ℕ) (n a : ℕ) → n ≤ 512 → a < 64 → Counting m counts n → get_or counts a 0 ≤ 512
 counting_low m counts n a few h c = omega (arith, c.each a h, incident_short m n a)
 
-pub counting_low_next : (m : Mesh) (counts cs : List ℕ) (n a b : ℕ) → n ≤ 512 → Joint m n a b → Counting m counts n → cs ≡ bumped counts a → get_or cs b 0 < 1024
-counting_low_next m counts cs n a b few j c e =
-    let low = counting_low m counts n b few j.second_in c in
-    let h = j.first_in in
-    let s = get_or_bumped counts a b (omega (arith, c.long)) in
-    let at = ap (λ (xs : List ℕ). get_or xs b 0) e in
-    let one : cond (eqb a b) 1 0 ≤ 1 = elim (eqb a b) as (λ x. cond x 1 0 ≤ 1) [ true ↦ omega arith | false ↦ omega arith ] in
-    omega (arith, low, s, at, one)
-
 pub counting_more : (m : Mesh) (counts cs ds : List ℕ) (n a b : ℕ) → Joint m n a b → cs ≡ bumped counts a → ds ≡ bumped cs b → Counting m counts n → Counting m ds (n + 1)
 counting_more m counts cs ds n a b j e f c =
     let ea = j.is_first in
@@ -146,16 +137,6 @@ starts_room m few counts starts long each total s = record {
   end = omega (arith, s 64 (omega arith), ap sum (take_all 64 counts (omega (arith, long))), total);
 }
 
-pub starts_more : (counts starts : List ℕ) (i : ℕ) → i < 64 → length counts ≡ 64 → length starts ≡ 65 → ((k : ℕ) → k < i + 1 → get_or starts k 0 ≡ sum (take k counts)) → (k : ℕ) → k < i + 1 + 1 → get_or (set starts (i + 1) (get_or starts i 0 + get_or counts i 0)) k 0 ≡ sum (take k counts)
-starts_more counts starts i h long wide s =
-    below_more (λ k. get_or (set starts (i + 1) (get_or starts i 0 + get_or counts i 0)) k 0 ≡ sum (take k counts)) (i + 1)
-    (λ k lt. get_or-set_other starts (i + 1) k (get_or starts i 0 + get_or counts i 0) 0 (λ e. omega arith) ∙ s k lt)
-    (
-    let a = get_or-set_same starts (i + 1) (get_or starts i 0 + get_or counts i 0) 0 (omega (arith, wide)) in
-    let b = sum_by_more (λ (x : ℕ). x) counts i 0 (omega (arith, long)) in
-    omega (arith, a, b, s i (omega arith))
-    )
-
 module _ {m : Mesh} {starts : List ℕ} (s : Starts starts m) where
   rising : (u k : ℕ) → u + 1 + k ≤ 64 → get_or starts (u + 1) 0 ≤ get_or starts (u + 1 + k) 0
   rising u zero h = let e : u + 1 + 0 ≡ u + 1 = omega arith in omega (arith, ap (λ (i : ℕ). get_or starts i 0) e)
@@ -171,9 +152,6 @@ module _ {m : Mesh} {starts : List ℕ} (s : Starts starts m) where
 
   pub row_end : (v : ℕ) → v < 64 → get_or starts v 0 + length (incident m v) ≤ 1024
   row_end v h = omega (arith, before v 64 (omega arith) (omega arith), s.end)
-
-  pub rises_end : (v : ℕ) → v < 64 → get_or starts (v + 1) 0 ≤ 1024
-  rises_end v h = omega (arith, row_end v h, s.room v h)
 
 -- A write before or behind a part of a list, and one at its end.
 between_before : (xs : List ℕ) (i j p x : ℕ) → p < i → between i j (set xs p x) ≡ between i j xs
@@ -263,14 +241,6 @@ module _ {m : Mesh} {starts : List ℕ} (s : Starts starts m) (entries next : Li
 abbrev pub Filled : Mesh → List ℕ → List ℕ → List ℕ → ℕ → Type 0
 Filled m starts entries next n = Filling starts entries next (incident (front m n))
 
-pub filled_none : (m : Mesh) (starts : List ℕ) → length starts ≡ 65 → Filled m starts (replicate 1024 0) starts 0
-filled_none m starts h = record {
-  long = refl;
-  wide = h;
-  at = λ v _. omega arith;
-  holds = λ v _. let e : get_or starts v 0 - get_or starts v 0 ≡ 0 = omega arith in ap (λ (k : ℕ). take k (drop (get_or starts v 0) (replicate 1024 0))) e;
-}
-
 module _ {m : Mesh} {starts : List ℕ} (s : Starts starts m) (entries next : List ℕ) (n a b : ℕ) (j : Joint m n a b) (f : Filled m starts entries next n) where
   two : (v : ℕ) → put_in (put_in (incident (front m n)) a n) b n v ≡ incident (front m (n + 1)) v
   two v =
@@ -288,9 +258,6 @@ module _ {m : Mesh} {starts : List ℕ} (s : Starts starts m) (entries next : Li
 
   first_row : put_in (incident (front m n)) a n a ≡ incident (front m n) a ++ (n ∷ [])
   first_row = cond-true (eqb a a) _ _ (eq-eqb a a refl)
-
-  second_old : put_in (incident (front m n)) a n b ≡ incident (front m n) b
-  second_old = cond-false (eqb a b) _ _ (ne_eqb a b j.apart)
 
   first_two : put_in (put_in (incident (front m n)) a n) b n a ≡ put_in (incident (front m n)) a n a
   first_two = cond-false (eqb b a) _ _ (ne_eqb b a (λ e. j.apart (sym e)))

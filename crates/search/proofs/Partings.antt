@@ -1,20 +1,13 @@
 -- What a separating set shows.
-use Rattle.std.proofs.Common.{◌≡◌, ℕ, ◌+◌, ◌<◌, Bool, true, false, List, [], ◌∷◌, length, get_or, set, sym, ap, ◌∙◌, arith, below_more}
-use Rattle.std.proofs.lemmas.List.{get_or-set_same, get_or-set_other}
+use Rattle.std.proofs.Common.{◌≡◌, ℕ, ◌<◌, Bool, true, false, Option, List, [], ◌∷◌, get_or, sym, ap, ◌∙◌}
 use Rattle.std.proofs.lemmas.Bool.{both_ways}
 use Rattle.search.specs.Graphs.{Graph, Lawful, across}
-use Rattle.search.specs.Spreads.{mark, Ended, Told}
+use Rattle.search.specs.Spreads.{reached, Ended, Told}
 use Rattle.search.specs.Paths.{OpenPath, destination, Separates, Unreachable}
 use Rattle.search.specs.declared.marks.Mark.{Mark}
 use Rattle.search.proofs.Meshes.{across_in}
 
-pub told_more : (ms : List Mark) (side : List Bool) (i : ℕ) → i < length side → Told ms side i → Told ms (set side i (mark ms i).reached) (i + 1)
-told_more ms side i lt t =
-    below_more (λ c. get_or (set side i (mark ms i).reached) c false ≡ (mark ms c).reached) i
-    (λ c l. get_or-set_other side i c (mark ms i).reached false (λ e. omega arith) ∙ t c l)
-    (get_or-set_same side i (mark ms i).reached false lt)
-
-pub separates : (g : Graph) → Lawful g.mesh → (start goal : ℕ) (ms : List Mark) (side : List Bool) → start < 64 → goal < 64 → Ended g start goal ms → (mark ms goal).reached ≡ false → Told ms side 64 → Separates g start goal side
+pub separates : (g : Graph) → Lawful g.mesh → (start goal : ℕ) (ms : List (Option Mark)) (side : List Bool) → start < 64 → goal < 64 → Ended g start goal ms → reached ms goal ≡ false → Told ms side → Separates g start goal side
 separates g laws start goal ms side s_in g_in r out t = record {
   inside = t start s_in ∙ r.tree.begins;
   outside = t goal g_in ∙ out;

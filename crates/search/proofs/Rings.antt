@@ -64,3 +64,11 @@ module _ {T : Type 0} (ps : List T) where
             ∙ ap (λ (i : ℕ). held ps i (len - 1)) (sym (cond-true (eqb (head + 1) (length ps)) 0 (head + 1) (eq-eqb (head + 1) (length ps) e)))
         | inr n ↦ ap (λ (i : ℕ). held ps i (len - 1)) (sym (cond-false (eqb (head + 1) (length ps)) 0 (head + 1) (ne_eqb (head + 1) (length ps) n)))
       ])
+
+  -- what stands behind the first item is held from the next head on
+  pub popped : (head len next : ℕ) (x : T) → head ≤ length ps - 1 → len ≤ length ps → held ps head len ≡ x ∷ drop 1 (held ps head len) → next ≡ after ps head → held ps head len ≡ x ∷ held ps next (len - 1)
+  popped head len next x h l f e =
+      let some : 0 < len = omega (arith, ap length f, length_held head len (omega arith) l) in
+      f
+      ∙ ap (λ (xs : List T). x ∷ drop 1 xs) (pop_after head len x (omega (arith, some)) some l)
+      ∙ ap (λ (i : ℕ). x ∷ held ps i (len - 1)) (sym e)

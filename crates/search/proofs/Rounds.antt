@@ -1,13 +1,13 @@
 -- One cabinet is taken from the queue, and has been left by each open step.
-use Rattle.std.proofs.Common.{◌≡◌, ℕ, true, List, [], ◌∷◌, sym, subst, inl, inr, arith}
+use Rattle.std.proofs.Common.{◌≡◌, ℕ, true, Option, List, [], ◌∷◌, sym, subst, inl, inr, arith}
 use Rattle.std.proofs.lemmas.Bool.{both_ways}
 use Rattle.search.specs.Graphs.{Graph, incident}
-use Rattle.search.specs.Spreads.{mark, Waits, Taken, Closed, Leaving, Resting, Ended}
+use Rattle.search.specs.Spreads.{reached, Waits, Taken, Closed, Leaving, Resting, Ended}
 use Rattle.search.specs.declared.marks.Mark.{Mark}
 use Rattle.search.specs.declared.marks.Arrival.{Arrival}
 use Rattle.search.proofs.Meshes.{incident_complete}
 
-module _ (g : Graph) (start : ℕ) (ms : List Mark) where
+module _ (g : Graph) (start : ℕ) (ms : List (Option Mark)) where
   picked : (a : Arrival) (rs : List Arrival) → Resting g start ms (a ∷ rs) → Leaving g start ms rs a.cabinet []
   picked a rs r =
       let q = r.spread.waiting in
@@ -22,9 +22,6 @@ module _ (g : Graph) (start : ℕ) (ms : List Mark) where
         taken = tt;
       }
 
-  pub picked_at : (qs : List Arrival) (a : Arrival) (rs : List Arrival) → qs ≡ a ∷ rs → Resting g start ms qs → Leaving g start ms rs a.cabinet []
-  picked_at qs a rs e r = picked a rs (subst (Resting g start ms) e r)
-
   pub rested : (qs : List Arrival) (at : ℕ) → Leaving g start ms qs at (incident g.mesh at) → Resting g start ms qs
   rested qs at s = record {
     spread = s.spread;
@@ -35,8 +32,8 @@ module _ (g : Graph) (start : ℕ) (ms : List Mark) where
   }
 
   -- the goal was reached
-  pub ended_reached : (goal : ℕ) (qs : List Arrival) → Resting g start ms qs → (mark ms goal).reached ≡ true → Ended g start goal ms
-  ended_reached goal qs r h = record { tree = r.spread.tree; closed = λ n. absurd (both_ways (mark ms goal).reached n h) }
+  pub ended_reached : (goal : ℕ) (qs : List Arrival) → Resting g start ms qs → reached ms goal ≡ true → Ended g start goal ms
+  ended_reached goal qs r h = record { tree = r.spread.tree; closed = λ n. absurd (both_ways (reached ms goal) n h) }
 
   -- none waits
   pub ended_empty : (goal : ℕ) (qs : List Arrival) → Resting g start ms qs → qs ≡ [] → Ended g start goal ms

@@ -1,5 +1,5 @@
 -- Meshes, and which steps over their links are open.
-use Rattle.std.specs.Prelude.{◌≡◌, ℕ, ◌<◌, ◌≤◌, Bool, true, cond, ◌||◌, List, length, filter, ◌==◌, ◌≢◌, slice_index_or}
+use Rattle.std.specs.Prelude.{◌≡◌, ℕ, ◌<◌, ◌≤◌, Bool, true, if◌then◌else◌, ◌||◌, List, length, filter, ◌==◌, ◌≢◌, slice_index_or}
 use Rattle.std.specs.List.{range_with_len}
 
 -- Links are numbered from 0, and each has two ends.
@@ -33,7 +33,7 @@ incident m v = filter (touches m v) (range_with_len 0 m.links)
 
 -- The end of the link l that is not the cabinet u.
 abbrev pub across : Mesh → ℕ → ℕ → ℕ
-across m u l = cond (m.first l == u) (m.second l) (m.first l)
+across m u l = (if m.first l == u then m.second l else m.first l)
 
 -- A mesh, and whether the step from a cabinet over a link is open.
 pub record Graph : Type 0 where

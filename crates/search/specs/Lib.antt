@@ -6,3 +6,4 @@ pub mod Paths
 pub mod Spreads
 pub mod Incidences
 pub mod Laws
+pub mod Nets

@@ -1,5 +1,5 @@
 -- Paths of open steps, and what shows that there is none.
-use Rattle.std.specs.Prelude.{◌≡◌, ℕ, ◌<◌, Bool, true, false, List, [], ◌∷◌, get_or, take, drop, Some, None, Option, ◌≢◌, slice_index_or}
+use Rattle.std.specs.Prelude.{◌≡◌, ℕ, ◌<◌, Bool, true, false, List, [], ◌∷◌, take, drop, Some, None, Option, ◌≢◌, slice_index_or}
 use Rattle.std.specs.List.{AllByRecursion}
 use Rattle.search.specs.Graphs.{Graph, Step, across}
 
@@ -31,8 +31,8 @@ pub record SimplePath (g : Graph) (start : ℕ) (ls : List ℕ) (goal : ℕ) : T
 
 -- The set of the cabinets v with `side` true at v holds the start, lacks the goal and is left by no open step.
 pub record Separates (g : Graph) (start goal : ℕ) (side : List Bool) : Type 0 where
-  pub inside : get_or side start false ≡ true
-  pub outside : get_or side goal false ≡ false
+  pub inside : slice_index_or side start false ≡ true
+  pub outside : slice_index_or side goal false ≡ false
   pub closed : (u l : ℕ) → u < 64 → slice_index_or side u false ≡ true → Step g u l → slice_index_or side (across g.mesh u l) false ≡ true
 
 -- No path of open steps leads from the start to the goal.

@@ -1,5 +1,5 @@
 -- What a queue holds, and what a push, a pop and a look do to it.
-use Rattle.std.specs.Prelude.{◌≡◌, ℕ, ◌+◌, ◌-◌, ◌<◌, Bool, true, false, cond, List, [], ◌∷◌, ◌++◌, length, take, drop, Some, None, Option, ◌==◌, nat_lt, slice_set}
+use Rattle.std.specs.Prelude.{◌≡◌, ℕ, ◌+◌, ◌-◌, ◌<◌, Bool, true, false, if◌then◌else◌, List, [], ◌∷◌, ◌++◌, length, take, drop, Some, None, Option, ◌==◌, nat_lt, slice_set}
 
 module _ {T : Type 0} where
   -- The items, front first: the `len` places from `head` on, going on from place 0 where they pass the end.
@@ -8,11 +8,11 @@ module _ {T : Type 0} where
 
   -- The place behind the last item: `len` places after `head`, counted round the end.
   abbrev pub behind : List T → ℕ → ℕ → ℕ
-  behind places head len = cond (nat_lt len (length places - head)) (head + len) (len - (length places - head))
+  behind places head len = (if nat_lt len (length places - head) then head + len else len - (length places - head))
 
   -- The place after the head, place 0 where that was the last.
   abbrev pub after : List T → ℕ → ℕ
-  after places head = cond (head + 1 == length places) 0 (head + 1)
+  after places head = (if head + 1 == length places then 0 else head + 1)
 
   -- A push answers true, and the item is the new last one; or false where the queue is full, and nothing changes.
   abbrev pub Pushed : List T → T → Bool → List T → ℕ → Type 0

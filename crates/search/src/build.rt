@@ -46,35 +46,44 @@ pub fn starts_of(counts: &[u16; 64]) -> [u16; 65]
     ensures { (v : ℕ) → v < 65 → slice_index result v ≡ sum (take v counts.now) }
 {
     let mut starts = [0u16; 65];
-    for v in 0..64 {
-        starts[v + 1] = starts[v] + counts[v];
+    for (v, count) in counts.iter().enumerate() {
+        starts[v + 1] = starts[v] + count;
     }
     starts
 }
 
-// Writes the link to the next free place of the cabinet's row.
-fn put(entries: &mut [u16; 1024], next: &mut [u16; 65], cabinet: u8, link: u16)
-    requires cabinet { cabinet < 64 }
-    requires place { slice_index next.old cabinet < 1024 }
-    ensures entries { entries.new ≡ slice_set entries.old (slice_index next.old cabinet) link }
-    ensures next { next.new ≡ bumped next.old cabinet }
-{
-    let place = next[cabinet as usize];
-    entries[place as usize] = link;
-    next[cabinet as usize] = place + 1;
+// Rows that are being filled: the entries so far, and the place of the next entry of each cabinet's row.
+#[derive(Drop)]
+struct Rows {
+    entries: [u16; 1024],
+    next: [u16; 65],
 }
 
-// Writes the link into the rows of both of its ends.
-fn put_both(entries: &mut [u16; 1024], next: &mut [u16; 65], ends: Ends, link: u16)
-    requires first { ends.first < 64 }
-    requires second { ends.second < 64 }
-    requires first_place { slice_index next.old ends.first < 1024 }
-    requires second_place { slice_index (bumped next.old ends.first) ends.second < 1024 }
-    ensures entries { entries.new ≡ slice_set (slice_set entries.old (slice_index next.old ends.first) link) (slice_index (bumped next.old ends.first) ends.second) link }
-    ensures next { next.new ≡ bumped (bumped next.old ends.first) ends.second }
-{
-    put(entries, next, ends.first, link);
-    put(entries, next, ends.second, link);
+impl Rows {
+    // Writes the link to the next free place of the cabinet's row.
+    fn put(&mut self, cabinet: u8, link: u16)
+        requires cabinet { cabinet < 64 }
+        requires place { slice_index self.old.next cabinet < 1024 }
+        ensures entries { self.new.entries ≡ slice_set self.old.entries (slice_index self.old.next cabinet) link }
+        ensures next { self.new.next ≡ bumped self.old.next cabinet }
+    {
+        let place = self.next[cabinet as usize];
+        self.entries[place as usize] = link;
+        self.next[cabinet as usize] = place + 1;
+    }
+
+    // Writes the link into the rows of both of its ends.
+    fn put_both(&mut self, ends: Ends, link: u16)
+        requires first { ends.first < 64 }
+        requires second { ends.second < 64 }
+        requires first_place { slice_index self.old.next ends.first < 1024 }
+        requires second_place { slice_index (bumped self.old.next ends.first) ends.second < 1024 }
+        ensures entries { self.new.entries ≡ slice_set (slice_set self.old.entries (slice_index self.old.next ends.first) link) (slice_index (bumped self.old.next ends.first) ends.second) link }
+        ensures next { self.new.next ≡ bumped (bumped self.old.next ends.first) ends.second }
+    {
+        self.put(ends.first, link);
+        self.put(ends.second, link);
+    }
 }
 
 // Writes each link into the rows of its two ends.
@@ -83,10 +92,12 @@ pub fn fill<T: Joins>(links: &[T], starts: &[u16; 65]) -> [u16; 1024]
     requires starts { Starts starts.now (mesh_by T.first T.second T.none links.now) }
     ensures { Indexes starts.now result (mesh_by T.first T.second T.none links.now) }
 {
-    let mut entries = [0u16; 1024];
-    let mut next = *starts;
+    let mut rows = Rows {
+        entries: [0; 1024],
+        next: *starts,
+    };
     for (number, link) in links.iter().enumerate() {
-        put_both(&mut entries, &mut next, link.ends(), number as u16);
+        rows.put_both(link.ends(), number as u16);
     }
-    entries
+    rows.entries
 }

@@ -1,51 +1,36 @@
 // The search, and what it writes into the caller's lists.
-ghost use Rattle.std.specs.Prelude.{◌≡◌, ℕ, ◌<◌, ◌≤◌, length, take, drop, slice_set};
+ghost use Rattle.std.specs.Prelude.{◌≡◌, ℕ, ◌+◌, ◌<◌, ◌≤◌, length, take, drop};
 ghost use Rattle.search.specs.Paths.{Found};
-ghost use Rattle.search.specs.Spreads.{mark, chain, Told};
+ghost use Rattle.search.specs.Spreads.{mark, level_of, from_of, chain, Told};
 
 use crate::ground::Ground;
 use crate::marks::Mark;
 use crate::spread::spread_from;
 
-// Writes the link that led to `at` to the place `left`, and tells the cabinet that it led from.
-fn step_back(marks: &[Mark], at: u8, path: &mut [u16], left: usize) -> u8
-    requires at { at < length marks.now }
-    requires left { left < length path.old }
-    ensures from { result ≡ (mark marks.now at).from }
-    ensures path { path.new ≡ slice_set path.old left (mark marks.now at).over }
-{
-    let mark = marks[at as usize];
-    path[left] = mark.over;
-    mark.from
-}
-
-// Writes the path to `goal` to the front of `path`, and tells how many links it has.
-fn trace(marks: &[Mark], goal: u8, path: &mut [u16]) -> usize
-    requires long { length marks.now ≡ 64 }
+// Writes the path to `goal` to the front of `path`, from the last link to the first.
+fn trace(marks: &[Option<Mark>; 64], goal: u8, path: &mut [u16])
     requires goal { goal < 64 }
-    requires near { (c : ℕ) → c < 64 → (mark marks.now c).from < 64 }
-    requires room { (mark marks.now goal).level ≤ length path.old }
-    ensures count { result ≡ (mark marks.now goal).level }
-    ensures way { take result path.new ≡ chain marks.now goal result }
-    ensures rest { drop result path.new ≡ drop result path.old }
+    requires near { (c : ℕ) → c < 64 → from_of (mark marks.now c) < 64 }
+    requires falls { (c : ℕ) → c < 64 → 0 < level_of (mark marks.now c) → level_of (mark marks.now (from_of (mark marks.now c))) + 1 ≡ level_of (mark marks.now c) }
+    requires room { level_of (mark marks.now goal) ≤ length path.old }
+    ensures way { take (level_of (mark marks.now goal)) path.new ≡ chain marks.now goal (level_of (mark marks.now goal)) }
+    ensures rest { drop (level_of (mark marks.now goal)) path.new ≡ drop (level_of (mark marks.now goal)) path.old }
 {
-    let count = marks[goal as usize].level as usize;
     let mut at = goal;
-    let mut left = count;
-    while left > 0 {
-        left -= 1;
-        at = step_back(marks, at, path, left);
+    while let Some(mark) = marks[at as usize]
+        && mark.level > 0
+    {
+        path[mark.level as usize - 1] = mark.over;
+        at = mark.from;
     }
-    count
 }
 
 // Writes to `side` which cabinets were reached.
-fn tell(marks: &[Mark], side: &mut [bool; 64])
-    requires { length marks.now ≡ 64 }
-    ensures { Told marks.now side.new 64 }
+fn tell(marks: &[Option<Mark>; 64], side: &mut [bool; 64])
+    ensures { Told marks.now side.new }
 {
-    for c in 0..64 {
-        side[c] = marks[c].reached;
+    for (cabinet, inside) in side.iter_mut().enumerate() {
+        *inside = marks[cabinet].is_some();
     }
 }
 
@@ -64,15 +49,10 @@ pub fn find_path<G: Ground>(
     requires path { 64 ≤ length path.old }
     ensures { Found (G.graph ground.now) start goal result path.old path.new side.old side.new }
 {
-    let mut marks = [Mark {
-        reached: false,
-        level: 0,
-        from: 0,
-        over: 0,
-    }; 64];
-    spread_from(ground, start, goal, &mut marks);
-    if marks[goal as usize].reached {
-        Some(trace(&marks, goal, path))
+    let marks = spread_from(ground, start, goal);
+    if let Some(mark) = marks[goal as usize] {
+        trace(&marks, goal, path);
+        Some(mark.level as usize)
     } else {
         tell(&marks, side);
         None

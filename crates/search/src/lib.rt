@@ -1,4 +1,4 @@
-// A first-in-first-out queue, an index of incident links, and one search for every ground.
+// A first-in-first-out queue, links with their index, and one search for every ground.
 #![tactic(auto)]
 
 mod build;
@@ -8,5 +8,6 @@ pub mod incidence;
 pub mod laws;
 pub mod links;
 pub mod marks;
+pub mod net;
 pub mod queue;
 mod spread;

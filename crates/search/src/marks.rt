@@ -5,11 +5,10 @@ pub struct Arrival {
     pub link: u16,
 }
 
-// What a search knows of a cabinet: whether it was reached and, if so, after how many links,
-// from which cabinet and over which link.
+// What a search knows of a cabinet that it reached: after how many links, from which cabinet and over which link.
+// (The start is reached after no link, from itself.)
 #[derive(Clone, Copy)]
 pub struct Mark {
-    pub reached: bool,
     pub level: u8,
     pub from: u8,
     pub over: u16,

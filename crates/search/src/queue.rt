@@ -1,5 +1,5 @@
 // A first-in-first-out queue over places that the caller lends.
-ghost use Rattle.std.specs.Prelude.{◌≡◌, ◌-◌, ◌<◌, ◌≤◌, [], length, ◌==◌, slice_index_or};
+ghost use Rattle.std.specs.Prelude.{◌≡◌, ◌-◌, ◌<◌, ◌≤◌, [], length, ◌==◌};
 ghost use Rattle.search.specs.Rings.{held, after, behind, Pushed, Written, Popped, Fronted};
 
 // A ring: the items stand from `head` on, and go on from place 0 where they pass the end. The head is a place, if there is one.
@@ -10,14 +10,6 @@ pub struct Queue<'a, T> {
     len: usize,
     ghost starts: { head ≤ length places.now - 1 },
     ghost fits: { len ≤ length places.now },
-}
-
-// The item at a place.
-fn item_at<T: Copy>(places: &[T], place: usize) -> T
-    requires { place < length places.now }
-    ensures { result ≡ slice_index_or places.now place result }
-{
-    places[place]
 }
 
 impl<'a, T: Copy> Queue<'a, T> {
@@ -65,14 +57,6 @@ impl<'a, T: Copy> Queue<'a, T> {
         if next == self.places.len() { 0 } else { next }
     }
 
-    // The item at the head.
-    fn at_head(&self) -> T
-        requires { 0 < length self.now.places.now }
-        ensures { result ≡ slice_index_or self.now.places.now self.now.head result }
-    {
-        item_at(&self.places[0..self.places.len()], self.head)
-    }
-
     // Puts `item` last, or answers false where every place is taken.
     pub fn push(&mut self, item: T) -> bool
         ensures items { Pushed (held self.old.places.now self.old.head self.old.len) item result (held self.new.places.now self.new.head self.new.len) (length self.old.places.now) }
@@ -94,9 +78,10 @@ impl<'a, T: Copy> Queue<'a, T> {
         ensures { Fronted (held self.now.places.now self.now.head self.now.len) result }
     {
         if self.len == 0 {
-            return None;
+            None
+        } else {
+            Some(self.places[self.head])
         }
-        Some(self.at_head())
     }
 
     // Takes the first item.
@@ -106,12 +91,8 @@ impl<'a, T: Copy> Queue<'a, T> {
         ensures room { length self.new.places.now ≡ length self.old.places.now }
         ensures lender { self.new.places.ghost_name ≡ self.old.places.ghost_name }
     {
-        if self.len == 0 {
-            return None;
-        }
-        let item = self.at_head();
-        let head = self.next_head();
-        self.head = head;
+        let item = self.front()?;
+        self.head = self.next_head();
         self.len -= 1;
         Some(item)
     }

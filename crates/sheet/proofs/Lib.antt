@@ -1,1 +1,2 @@
 pub mod Nearness
+mod Grounds

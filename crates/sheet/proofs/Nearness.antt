@@ -1,12 +1,19 @@
 -- A stream's total is bounded by the slots of the links.
-use Rattle.std.proofs.Common.{ℕ, suc, ◌+◌, ◌*◌, ◌<◌, ◌≤◌, Bool, true, false, eqb, List, [], ◌∷◌, length, get_or, ℤ, pos, ◌+ℤ◌, ◌-ℤ◌, nat_abs, sym, subst, arith}
-use Rattle.flow.specs.Ranges.{most_slots}
+use Rattle.std.proofs.Common.{◌≡◌, ℕ, suc, ◌+◌, ◌*◌, ◌<◌, ◌≤◌, Bool, true, false, eqb, List, [], ◌∷◌, length, get_or, ℤ, pos, ◌+ℤ◌, ◌-ℤ◌, nat_abs, sym, subst, arith}
+use Rattle.flow.specs.Ranges.{cabinets, most_slots}
+use Rattle.flow.specs.declared.pairs.Pair.{Pair}
+use Rattle.flow.specs.declared.stream.Stream.{Stream}
+use Rattle.flow.specs.declared.stream.Stream.TheVariants.{One, Two}
+use Rattle.flow.specs.Streams.{pair_of}
 use Rattle.flow.specs.Plans.{Shared}
 use Rattle.flow.specs.Nets.{only, here, after, net}
 use Rattle.flow.proofs.Sums.{whole}
 use Rattle.flow.proofs.Bounds.{after_at}
+use Rattle.plan.specs.declared.listed.Plan.{Plan}
+use Rattle.plan.specs.Listed.{shares_of}
 use Rattle.mesh.specs.declared.row.Row.{Row}
 use Rattle.mesh.specs.Links.{blank, low_of, high_of, capacity_of}
+use Rattle.sheet.specs.Plans.{Fits}
 use Rattle.sheet.specs.Routes.{AllRuled}
 
 -- shares that fit the links' slots are no larger than a link's slots can be
@@ -27,3 +34,21 @@ net_near (l ∷ ls) shares v h =
     let rest = net_near ls (after shares) v (λ k q. subst (λ x. nat_abs x ≤ most_slots) (sym (after_at shares k)) (h (suc k) (omega arith))) in
     let near = link_near (eqb l.low v) (eqb l.high v) (here shares) (net low_of high_of ls (after shares) v) most_slots (length ls) (h 0 (omega arith)) rest in
     omega (arith, near)
+
+-- what holds of one stream's shares and ends
+pub record StreamFits (links : List Row) (shares : List ℤ) (ends : Pair) : Type 0 where
+  pub long : length shares ≡ length links
+  pub small : (k : ℕ) → k < length links → nat_abs (get_or shares k (pos 0)) ≤ most_slots
+  pub source_in : ends.source < cabinets
+  pub goal_in : ends.goal < cabinets
+
+-- so it is for each stream of a plan that fits
+pub stream_fits : (links : List Row) (p : Plan) → AllRuled links → Fits links p → (stream : Stream) (shares : List ℤ) (ends : Pair) → shares ≡ shares_of stream p.one.now p.two.now → ends ≡ pair_of p.pairs stream → StreamFits links shares ends
+stream_fits links p ruled f stream shares ends es ee = subst (λ (fs : List ℤ). StreamFits links fs ends) (sym es) (subst (StreamFits links (shares_of stream p.one.now p.two.now)) (sym ee) (at stream))
+  where
+    small : (k : ℕ) → k < length links → (nat_abs (get_or p.one.now k (pos 0)) ≤ most_slots) × (nat_abs (get_or p.two.now k (pos 0)) ≤ most_slots)
+    small = shares_small links p.one.now p.two.now ruled f.shared
+
+    at : (s : Stream) → StreamFits links (shares_of s p.one.now p.two.now) (pair_of p.pairs s)
+    at One = record { long = f.ones; small = λ k h. (small k h).0; source_in = f.proper.source1_in; goal_in = f.proper.goal1_in }
+    at Two = record { long = f.twos; small = λ k h. (small k h).1; source_in = f.proper.source2_in; goal_in = f.proper.goal2_in }

@@ -1,4 +1,5 @@
 pub mod Routes
-pub mod Grounds
+pub mod Plans
 pub mod Readings
 pub mod Sheets
+pub mod Tellings

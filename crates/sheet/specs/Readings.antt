@@ -1,5 +1,5 @@
 -- What can be read off a sheet, what a request is refused for, and what it is answered.
-use Rattle.std.specs.Prelude.{◌≡◌, ℕ, ◌<◌, Bool, cond, not, ◌||◌, List, length, ℤ, pos, is_some, Some, None, Ok, Err, Option, Result, ◌==◌, ◌≢◌, nat_le, nat_lt, slice_index_or}
+use Rattle.std.specs.Prelude.{◌≡◌, ℕ, Bool, cond, not, ◌||◌, List, length, ℤ, pos, is_some, Some, None, Ok, Err, Option, Result, ◌==◌, nat_le, nat_lt, slice_index_or}
 use Rattle.flow.specs.declared.pairs.Pairs.{Pairs}
 use Rattle.flow.specs.Nets.{members}
 use Rattle.flow.specs.Plans.{total_one, total_two, sum_of}
@@ -34,14 +34,6 @@ pub data Request : Type 0 where
   Share : ℕ → Request
   Member : Side → ℕ → Request
   Route : ℕ → ℕ → Request
-
--- every source and goal is a cabinet
-abbrev pub EndsInside : Pairs → Type 0
-EndsInside p = (p.source1 < 64) × (p.goal1 < 64) × (p.source2 < 64) × (p.goal2 < 64)
-
--- each source differs from its goal
-abbrev pub EndsApart : Pairs → Type 0
-EndsApart p = (p.source1 ≢ p.goal1) × (p.source2 ≢ p.goal2)
 
 -- whether no plan is held
 abbrev pub no_plan : Reading → Bool

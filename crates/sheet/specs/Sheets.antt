@@ -1,6 +1,6 @@
 -- What a `Sheet` shows, by the struct.
 use Rattle.std.specs.Prelude.{Some, None, Option}
-use Rattle.sheet.specs.declared.held.Plan.{Plan}
+use Rattle.plan.specs.declared.listed.Plan.{Plan}
 use Rattle.sheet.specs.declared.sheet.Sheet.{Sheet}
 use Rattle.sheet.specs.Readings as readings
 use Rattle.sheet.specs.Readings.{Reading}

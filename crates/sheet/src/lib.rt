@@ -2,6 +2,6 @@
 #![tactic(auto)]
 
 pub mod answers;
+mod carriage;
 mod carried;
-pub mod held;
 pub mod sheet;

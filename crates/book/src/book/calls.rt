@@ -1,3 +1,5 @@
+#![tactic(auto, using(crate::proofs::Pasts::then, crate::proofs::Pasts::stays))]
+
 ghost use Rattle.std.specs.Prelude.{◌≡◌, IfOk};
 ghost use Rattle.book.specs.History.{Step, Stays, opened};
 ghost use Rattle.book.specs.History.Call.{Add, Resize, Drop, Name, Begin, Close};

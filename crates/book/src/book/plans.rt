@@ -1,3 +1,5 @@
+#![tactic(auto, using(crate::proofs::Pasts::then, crate::proofs::Pasts::stays, crate::proofs::Laws::orderly))]
+
 ghost use Rattle.book.specs.History.{Step, Stays};
 ghost use Rattle.book.specs.History.Call.{Draw, Admit};
 ghost use Rattle.book.specs.Ledgers.{proposed};

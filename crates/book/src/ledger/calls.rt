@@ -1,18 +1,17 @@
-ghost use Rattle.std.specs.Prelude.{◌≡◌, IfOk, vec_len};
+ghost use Rattle.std.specs.Prelude.{◌≡◌, length, is_some, if◌then◌else◌, nat_le, IfOk, vec_len};
+ghost use Rattle.mesh.specs.declared.fault.Fault.TheVariants.{TrialStands, NoLink};
 ghost use Rattle.book.specs.History.{Step, Stays, opened, linked};
 ghost use Rattle.book.specs.History.Call.{Add, Resize, Drop, Name};
 ghost use Rattle.book.specs.Ledgers.{seen};
 
 use crate::ledger::Ledger;
 use flow::pairs::Pairs;
+use flow::ranges::MOST_LINKS;
 use mesh::fault::Fault;
 use mesh::link::Link;
 use mesh::link::make::{LAST_CABINET, bad_slots};
 use mesh::row::Row;
 use std::alloc::{AllocError, Global};
-
-// The most links that a book holds.
-const MOST_LINKS: usize = 512;
 
 // A list of shares, one for each link that a book may hold.
 fn no_shares(heap: Global) -> Result<Vec<i32>, AllocError>
@@ -42,23 +41,39 @@ impl Ledger {
     fn linked(&self, low: u8, high: u8) -> bool
         ensures { result ≡ linked self.now.rows.items low high }
     {
-        for row in self.rows.iter() {
-            if row.low == low && row.high == high {
-                return true;
-            }
+        self.rows
+            .iter()
+            .any(|row| row.low == low && row.high == high)
+    }
+
+    // Refuses what a trial that stands forbids.
+    pub(super) fn refuse_in_trial(&self) -> Result<(), Fault>
+        ensures { result ≡ (if is_some self.now.trial then Err TrialStands else Ok tt) }
+    {
+        if self.trial.is_some() {
+            return Err(Fault::TrialStands);
         }
-        false
+        Ok(())
+    }
+
+    // The place of a link, which is its number.
+    pub(super) fn place_of(&self, link: u16) -> Result<usize, Fault>
+        ensures { result ≡ (if nat_le (length self.now.rows.items) link then Err NoLink else Ok link) }
+    {
+        let at = usize::from(link);
+        if at >= self.rows.len() {
+            return Err(Fault::NoLink);
+        }
+        Ok(at)
     }
 
     pub(crate) fn add(&mut self, one: u8, other: u8, slots: u32) -> Result<(), Fault>
         ensures step { Step (seen self.old) (Add one other slots) result (seen self.new) }
         ensures stays { Stays result self.old self.new }
     {
-        let link = Link::of(Row::between(one, other, slots))?;
-        if self.trial.is_some() {
-            return Err(Fault::TrialStands);
-        }
-        let row = link.row();
+        let link = Link::try_from(Row::between(one, other, slots))?;
+        self.refuse_in_trial()?;
+        let row = Row::from(link);
         if self.linked(row.low, row.high) {
             return Err(Fault::Linked);
         }
@@ -77,20 +92,10 @@ impl Ledger {
         if bad_slots(slots) {
             return Err(Fault::Slots);
         }
-        if self.trial.is_some() {
-            return Err(Fault::TrialStands);
-        }
-        let at = link as usize;
-        if at >= self.rows.len() {
-            return Err(Fault::NoLink);
-        }
+        self.refuse_in_trial()?;
+        let at = self.place_of(link)?;
         self.held = None; // also where the number stays the same
-        let Row {
-            low,
-            high,
-            slots: _,
-        } = self.rows[at];
-        self.rows[at] = Row { low, high, slots };
+        self.rows[at].slots = slots;
         Ok(())
     }
 
@@ -98,13 +103,8 @@ impl Ledger {
         ensures step { Step (seen self.old) (Drop link) result (seen self.new) }
         ensures stays { Stays result self.old self.new }
     {
-        if self.trial.is_some() {
-            return Err(Fault::TrialStands);
-        }
-        let at = link as usize;
-        if at >= self.rows.len() {
-            return Err(Fault::NoLink);
-        }
+        self.refuse_in_trial()?;
+        let at = self.place_of(link)?;
         self.held = None;
         let _ = self.rows.remove(at);
         Ok(())

@@ -9,6 +9,7 @@ use engine::engine::Engine;
 use mesh::fault::Fault;
 use plan::drawing::draw;
 use plan::judging::judge;
+use plan::listed::Plan;
 use plan::sides::Sides;
 
 // The first places of `to` become those of `from`; later places stay.
@@ -16,8 +17,7 @@ fn copy_front(to: &mut [i32], from: &[i32])
     requires { length from.now ≤ length to.old }
     ensures { to.new ≡ from.now ++ drop (length from.now) to.old }
 {
-    let n = from.len();
-    to[0..n].copy_from_slice(from);
+    to[..from.len()].copy_from_slice(from);
 }
 
 // A side list as an array.
@@ -25,9 +25,7 @@ fn side_of(list: &[bool]) -> [bool; 64]
     requires { length list.now ≡ 64 }
     ensures { result ≡ list.now }
 {
-    let mut side = [false; 64];
-    side.copy_from_slice(list);
-    side
+    list.try_into().unwrap()
 }
 
 impl Ledger {
@@ -36,9 +34,7 @@ impl Ledger {
         ensures step { Step (seen self.old) Draw result (seen self.new) }
         ensures stays { Stays result self.old self.new }
     {
-        let Some(pairs) = self.pairs else {
-            return Err(Fault::Unnamed);
-        };
+        let pairs = self.pairs.ok_or(Fault::Unnamed)?;
         let sides = draw(
             engine,
             self.rows.as_slice(),
@@ -54,18 +50,21 @@ impl Ledger {
         ensures step { Step (seen self.old) (Admit (proposed proposal.entry)) result (seen self.new) }
         ensures stays { Stays result self.old self.new }
     {
-        let Some(pairs) = self.pairs else {
-            return Err(Fault::Unnamed);
-        };
+        let pairs = self.pairs.ok_or(Fault::Unnamed)?;
         let Proposal {
             one,
             two,
             cut,
             first,
         } = proposal;
-        if let Some(flaw) = judge(self.rows.as_slice(), pairs, one, two, cut, first) {
-            return Err(Fault::Proposal(flaw));
-        }
+        let plan = Plan {
+            pairs,
+            one,
+            two,
+            cut,
+            first,
+        };
+        judge(self.rows.as_slice(), plan)?;
         copy_front(self.one.as_mut_slice(), one);
         copy_front(self.two.as_mut_slice(), two);
         self.held = Some(Sides {

@@ -6,7 +6,7 @@ ghost use Rattle.book.specs.Sheets.{reading};
 use crate::ledger::Ledger;
 use flow::pairs::Pairs;
 use mesh::row::Row;
-use sheet::held::Plan;
+use plan::listed::Plan;
 
 impl Ledger {
     pub(crate) fn links(&self) -> &[Row]
@@ -25,17 +25,13 @@ impl Ledger {
     pub(crate) fn plan(&self) -> Option<Plan<'_>>
         ensures { plan_shown result ≡ (reading (seen self.now)).plan }
     {
-        let Some(pairs) = self.pairs else {
-            return None;
-        };
-        let Some(sides) = &self.held else {
-            return None;
-        };
+        let pairs = self.pairs?;
+        let sides = self.held.as_ref()?;
         let n = self.rows.len();
         Some(Plan {
             pairs,
-            one: &self.one.as_slice()[0..n],
-            two: &self.two.as_slice()[0..n],
+            one: &self.one.as_slice()[..n],
+            two: &self.two.as_slice()[..n],
             cut: &sides.cut,
             first: &sides.first,
         })

@@ -6,7 +6,6 @@ ghost use Rattle.book.specs.Receipts.{begun, closed, trial_of, Received, HandedB
 use crate::ledger::Ledger;
 use crate::trial::{Receipt, Refused, Trial};
 use mesh::fault::Fault;
-use mesh::row::Row;
 
 impl Ledger {
     pub(crate) fn begin(&mut self, link: u16) -> Result<Receipt, Fault>
@@ -14,23 +13,16 @@ impl Ledger {
         ensures receipt { Received link (seen self.old) result }
         ensures stays { Stays (begun result) self.old self.new }
     {
-        if self.trial.is_some() {
-            return Err(Fault::TrialStands);
-        }
-        let at = link as usize;
-        if at >= self.rows.len() {
-            return Err(Fault::NoLink);
-        }
+        self.refuse_in_trial()?;
+        let at = self.place_of(link)?;
         self.held = None;
-        let Row { low, high, slots } = self.rows[at];
-        self.rows[at] = Row {
-            low,
-            high,
-            slots: 0,
+        let trial = Trial {
+            link,
+            slots: self.rows[at].slots,
         };
-        let trial = Trial { link, slots };
+        self.rows[at].slots = 0;
         self.trial = Some(trial);
-        Ok(Receipt::of(trial))
+        Ok(Receipt { trial })
     }
 
     pub(crate) fn close(&mut self, receipt: Receipt) -> Result<(), Refused>
@@ -39,23 +31,15 @@ impl Ledger {
         ensures receipt { HandedBack receipt result }
         ensures stays { Stays (closed result) self.old self.new }
     {
-        let Some(trial) = self.trial else {
-            return Err(Refused {
-                receipt,
-                fault: Fault::NoTrial,
-            });
-        };
-        if !receipt.is_of(trial) {
+        if self.trial != Some(receipt.trial) {
             return Err(Refused {
                 receipt,
                 fault: Fault::NoTrial,
             });
         }
-        let Trial { link, slots } = receipt.spend();
-        let at = link as usize;
+        let Receipt { trial } = receipt;
         self.held = None;
-        let Row { low, high, .. } = self.rows[at];
-        self.rows[at] = Row { low, high, slots };
+        self.rows[usize::from(trial.link)].slots = trial.slots;
         self.trial = None;
         Ok(())
     }

@@ -1,21 +1,14 @@
 // Making a job, which refuses numbers out of range, and reading it.
-ghost use Rattle.std.specs.Prelude.{◌≡◌, ◌≤◌, true, length, take, Decides};
+ghost use Rattle.std.specs.Prelude.{◌≡◌, ◌≤◌, true, length, Decides};
 ghost use Rattle.flow.specs.Ranges.{cabinets, most_links};
 ghost use Rattle.flow.specs.Answers.{Placed};
-ghost use Rattle.engine.specs.Arcs.{Sound, AllSound, Limited};
+ghost use Rattle.engine.specs.Arcs.{Sound, AllSound, Limited, Fits};
 ghost use Rattle.engine.specs.Jobs.{Made, links_of};
 
 use super::Job;
 use crate::arc::Arc;
+use flow::ranges::{CABINETS, MOST_FED, MOST_LIMIT, MOST_LINKS};
 use flow::taps::Taps;
-
-const CABINETS: u8 = 64;
-
-const MOST_LINKS: usize = 512;
-
-const MOST_LIMIT: u32 = 524_288;
-
-const MOST_FED: u32 = 536_870_912;
 
 // Whether a link joins two different cabinets and its limit is in range.
 fn is_sound(arc: Arc) -> bool
@@ -27,68 +20,65 @@ fn is_sound(arc: Arc) -> bool
 fn are_sound(links: &[Arc]) -> bool
     ensures { Decides result (AllSound links.now) }
 {
-    for arc in links {
-        if !is_sound(*arc) {
-            return false;
-        }
-    }
-    true
+    links.iter().all(|arc| is_sound(*arc))
 }
 
 // Whether all four are cabinets.
 fn are_placed(at: Taps<u8>) -> bool
     ensures { Decides result (Placed cabinets at) }
 {
-    at.feed1 < CABINETS && at.feed2 < CABINETS && at.drain1 < CABINETS && at.drain2 < CABINETS
+    at.all(|cabinet| cabinet < CABINETS)
 }
 
 // Whether all four limits are in range.
 fn are_limited(most: Taps<u32>) -> bool
     ensures { Decides result (Limited most) }
 {
-    most.feed1 <= MOST_FED
-        && most.feed2 <= MOST_FED
-        && most.drain1 <= MOST_FED
-        && most.drain2 <= MOST_FED
+    most.all(|limit| limit <= MOST_FED)
 }
 
-fn copied(links: &[Arc]) -> [Arc; 512]
-    requires { length links.now ≤ most_links }
-    ensures { take (length links.now) result ≡ links.now }
-{
-    let mut arcs = [Arc {
-        tail: 0,
-        head: 0,
-        limit: 0,
-    }; 512];
-    for (i, arc) in links.iter().enumerate() {
-        arcs[i] = *arc;
-    }
-    arcs
-}
-
-impl Job {
+impl<'a> Job<'a> {
     // The job with these links, cabinets and limits, or none where a number is out of range.
-    pub fn new(links: &[Arc], at: Taps<u8>, most: Taps<u32>) -> Option<Job>
+    pub fn new(links: &'a [Arc], at: Taps<u8>, most: Taps<u32>) -> Option<Job<'a>>
         ensures { Made links.now at most result }
     {
         if links.len() > MOST_LINKS || !are_sound(links) || !are_placed(at) || !are_limited(most) {
             return None;
         }
-        Some(Job {
-            arcs: copied(links),
-            count: links.len(),
-            at,
-            most,
-        })
+        Some(Job::of(links, at, most))
+    }
+
+    // The job with these links, cabinets and limits, all of which are in range.
+    pub fn of(links: &'a [Arc], at: Taps<u8>, most: Taps<u32>) -> Job<'a>
+        requires { Fits links.now at most }
+        ensures links { links_of result ≡ links.now }
+        ensures at { result.at ≡ at }
+        ensures most { result.most ≡ most }
+    {
+        Job { links, at, most }
+    }
+
+    // The same job over other links.
+    pub(crate) fn with_links<'b>(&self, links: &'b [Arc]) -> Job<'b>
+        requires few { length links.now ≤ most_links }
+        requires sound { AllSound links.now }
+        ensures links { links_of result ≡ links.now }
+        ensures at { result.at ≡ self.now.at }
+        ensures most { result.most ≡ self.now.most }
+    {
+        Job {
+            links,
+            at: self.at,
+            most: self.most,
+        }
     }
 
     // The links in order.
-    pub fn links(&self) -> &[Arc]
+    pub fn links(&self) -> &'a [Arc]
         ensures links { result.now ≡ links_of self.now }
         ensures few { length result.now ≤ most_links }
     {
-        &self.arcs[0..self.count]
+        self.links
     }
 
     // The cabinets of the feeds and drains.

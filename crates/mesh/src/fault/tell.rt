@@ -1,7 +1,22 @@
-ghost use Rattle.std.specs.Prelude.{◌≡◌};
-ghost use Rattle.mesh.specs.Faults.{number, missing_number, place, layer};
+ghost use Rattle.std.specs.Prelude.{◌≡◌, Some};
+ghost use Rattle.mesh.specs.Faults.{number, missing_number, place, layer, layer_text, fault_text};
 
 use crate::fault::{Fault, Layer, Missing};
+use std::fmt;
+
+// A layer is told by its name.
+impl fmt::Display for Layer {
+    ghost output = { λ layer. Some (layer_text layer) };
+
+    fn fmt<W: fmt::Write>(&self, f: &mut fmt::Formatter<W>) -> fmt::Result {
+        f.write_str(match self {
+            Layer::Order => "order",
+            Layer::Book => "book",
+            Layer::Proposal => "proposal",
+            Layer::Sheet => "sheet",
+        })
+    }
+}
 
 impl Missing {
     // The number by which a sheet reports what it lacks.
@@ -72,5 +87,14 @@ impl Fault {
             Fault::Proposal(_) => Layer::Proposal,
             Fault::Sheet(_) => Layer::Sheet,
         }
+    }
+}
+
+// A fault is told by its number, its place and its layer.
+impl fmt::Display for Fault {
+    ghost output = { λ fault. Some (fault_text fault) };
+
+    fn fmt<W: fmt::Write>(&self, f: &mut fmt::Formatter<W>) -> fmt::Result {
+        write!(f, "{} at {} {}", self.number(), self.place(), self.layer())
     }
 }

@@ -5,12 +5,10 @@ ghost use Rattle.mesh.specs.Made.{Makes, as_row};
 use crate::fault::Fault;
 use crate::link::Link;
 use crate::row::Row;
-
-// The most slots that a link can have.
-const MOST_SLOTS: u32 = 1_048_576;
+use flow::ranges::{CABINETS, MOST_SLOTS};
 
 // The highest number of a cabinet.
-pub const LAST_CABINET: u8 = 63;
+pub const LAST_CABINET: u8 = CABINETS - 1;
 
 // Whether a link cannot have so many slots.
 pub fn bad_slots(slots: u32) -> bool
@@ -19,11 +17,13 @@ pub fn bad_slots(slots: u32) -> bool
     slots % 2 != 0 || slots > MOST_SLOTS
 }
 
-impl Link {
-    // The link that a row stands for, or the first part of the rule that it breaks.
-    pub fn of(row: Row) -> Result<Link, Fault>
-        ensures { Makes row result }
-    {
+// The link that a row stands for, or the first part of the rule that it breaks.
+impl TryFrom<Row> for Link {
+    type Error = Fault;
+
+    ghost try_from_gives = { Makes };
+
+    fn try_from(row: Row) -> Result<Link, Fault> {
         if row.high > LAST_CABINET {
             return Err(Fault::Cabinet);
         }
@@ -39,15 +39,17 @@ impl Link {
             slots: row.slots,
         })
     }
+}
 
-    // The link's numbers.
-    pub fn row(self) -> Row
-        ensures { result ≡ as_row self }
-    {
+// The link's numbers.
+impl From<Link> for Row {
+    ghost from_gives = { λ link row. row ≡ as_row link };
+
+    fn from(link: Link) -> Row {
         Row {
-            low: self.low,
-            high: self.high,
-            slots: self.slots,
+            low: link.low,
+            high: link.high,
+            slots: link.slots,
         }
     }
 }

@@ -1,84 +1,68 @@
-ghost use Rattle.std.specs.Prelude.{◌≡◌, ℕ, ◌*◌, ◌<◌, ◌≤◌, length, pos, Some, slice_index_or, unsigned_abs};
-ghost use Rattle.flow.specs.Ranges.{cabinets, most_slots};
-ghost use Rattle.flow.specs.Nets.{net};
-ghost use Rattle.flow.specs.Plans.{Shared, Proper};
-ghost use Rattle.mesh.specs.Links.{low_of, high_of, capacity_of};
-ghost use Rattle.sheet.specs.declared.held.Plan.{Plan as Held};
-ghost use Rattle.sheet.specs.Routes.{AllRuled, CarriedBy, RouteTold};
+ghost use Rattle.std.specs.Prelude.{◌≡◌, ◌≤◌, length, Some};
+ghost use Rattle.std.specs.Option.{ok_or};
+ghost use Rattle.flow.specs.Streams.{pair_of};
+ghost use Rattle.plan.specs.Listed.{shares_of};
+ghost use Rattle.plan.specs.declared.listed.Plan.{Plan as Held};
+ghost use Rattle.mesh.specs.declared.fault.Missing.TheVariants as missing;
+ghost use Rattle.sheet.specs.Routes.{AllRuled};
+ghost use Rattle.sheet.specs.Plans.{Fits};
 ghost use Rattle.sheet.specs.Readings.{Answers, Totalled, Carries, Contains, Routed, Stays};
 ghost use Rattle.sheet.specs.Readings.Request.{Total, Share, Member, Route};
 ghost use Rattle.sheet.specs.Sheets.{shown};
 
 use crate::answers::{Shares, Side, Totals};
-use crate::carried::Carried;
-use crate::held::Plan;
+use crate::carriage::Carriage;
 use crate::sheet::Sheet;
-use flow::nets::net_at;
 use flow::sides;
+use flow::stream::Stream;
 use mesh::fault::{Fault, Missing};
 use mesh::link::make::LAST_CABINET;
 use mesh::row::Row;
-use search::find::find_path;
+use plan::listed::Plan;
 
 // The fewest places of a list that a route is written to: a path without a repeated cabinet has fewer links.
 const ROUTE_PLACES: usize = 64;
-
-// A stream's total: what leaves its source minus what enters it.
-fn total(links: &[Row], shares: &[i32], source: u8) -> i64
-    requires few { length links.now ≤ 512 }
-    requires long { length shares.now ≡ length links.now }
-    requires within { (k : ℕ) → k < length links.now → unsigned_abs (slice_index_or shares.now k (pos 0)) ≤ most_slots }
-    ensures value { result ≡ net low_of high_of links.now shares.now source }
-    ensures small { unsigned_abs result ≤ 512 * (2 * most_slots) }
-{
-    net_at(links, shares, source)
-}
-
-// Searches a route along the shares, and writes it to the front of the list.
-fn route_along<'a>(
-    links: &'a [Row],
-    shares: &'a [i32],
-    source: u8,
-    goal: u8,
-    path: &mut [u16],
-) -> Option<usize>
-    requires few { length links.now ≤ 512 }
-    requires ruled { AllRuled links.now }
-    requires long { length shares.now ≡ length links.now }
-    requires source { source < 64 }
-    requires goal { goal < 64 }
-    requires path { 64 ≤ length path.old }
-    ensures { RouteTold (CarriedBy links.now shares.now) source goal path.old path.new result }
-{
-    let carried = Carried::of(links, shares);
-    let mut side = [false; 64];
-    find_path(&carried, source, goal, path, &mut side)
-}
 
 impl<'a> Sheet<'a> {
     // A sheet of these links and this plan.
     pub fn new(links: &'a [Row], plan: Option<Plan<'a>>) -> Sheet<'a>
         requires few { length links.now ≤ 512 }
         requires ruled { AllRuled links.now }
-        requires ones { (p : Held) → plan ≡ Some p → length p.one.now ≡ length links.now }
-        requires twos { (p : Held) → plan ≡ Some p → length p.two.now ≡ length links.now }
-        requires shared { (p : Held) → plan ≡ Some p → Shared capacity_of links.now p.one.now p.two.now }
-        requires proper { (p : Held) → plan ≡ Some p → Proper cabinets p.pairs }
+        requires fits { (p : Held) → plan ≡ Some p → Fits links.now p }
         ensures links { result.links.now ≡ links.now }
         ensures plan { result.plan ≡ plan.entry }
     {
         Sheet { links, plan }
     }
 
+    // The held plan.
+    fn plan(&self) -> Result<Plan<'a>, Missing>
+        ensures { result ≡ ok_or self.now.plan missing.Plan }
+    {
+        self.plan.ok_or(Missing::Plan)
+    }
+
+    // What a stream of the held plan carries.
+    fn carriage(&self, plan: Plan<'a>, stream: Stream) -> Carriage<'a>
+        requires { self.now.plan ≡ Some plan }
+        ensures links { result.links.now ≡ self.now.links.now }
+        ensures shares { result.shares.now ≡ shares_of stream plan.entry.one.now plan.entry.two.now }
+        ensures ends { result.ends ≡ pair_of plan.entry.pairs stream }
+    {
+        Carriage {
+            links: self.links,
+            shares: plan.shares(stream),
+            ends: plan.pairs.of(stream),
+        }
+    }
+
     // The totals of the plan.
     pub fn totals(&self) -> Result<Totals, Fault>
         ensures { Answers (shown self.now) Total Totalled result }
     {
-        let Some(plan) = self.plan else {
-            return Err(Fault::Sheet(Missing::Plan));
-        };
-        let one = total(self.links, plan.one, plan.pairs.source1);
-        let two = total(self.links, plan.two, plan.pairs.source2);
+        let plan = self.plan()?;
+        let one = self.carriage(plan, Stream::One).total();
+        let two = self.carriage(plan, Stream::Two).total();
         Ok(Totals {
             sum: one + two,
             one,
@@ -90,12 +74,10 @@ impl<'a> Sheet<'a> {
     pub fn shares(&self, link: u16) -> Result<Shares, Fault>
         ensures { Answers (shown self.now) (Share link) (Carries link) result }
     {
-        let Some(plan) = self.plan else {
-            return Err(Fault::Sheet(Missing::Plan));
-        };
+        let plan = self.plan()?;
         let at = link as usize;
         if at >= self.links.len() {
-            return Err(Fault::Sheet(Missing::Link));
+            return Err(Missing::Link.into());
         }
         Ok(Shares {
             one: plan.one[at],
@@ -107,11 +89,9 @@ impl<'a> Sheet<'a> {
     pub fn holds(&self, side: Side, cabinet: u8) -> Result<bool, Fault>
         ensures { Answers (shown self.now) (Member side cabinet) (Contains side cabinet) result }
     {
-        let Some(plan) = self.plan else {
-            return Err(Fault::Sheet(Missing::Plan));
-        };
+        let plan = self.plan()?;
         if cabinet > LAST_CABINET {
-            return Err(Fault::Sheet(Missing::Cabinet));
+            return Err(Missing::Cabinet.into());
         }
         match side {
             Side::Cut => Ok(sides::holds(plan.cut, cabinet)),
@@ -125,20 +105,11 @@ impl<'a> Sheet<'a> {
         ensures route { Answers (shown self.now) (Route stream (length path.old)) (Routed stream path.old path.new) result }
         ensures stays { Stays result path.old path.new }
     {
-        let Some(plan) = self.plan else {
-            return Err(Fault::Sheet(Missing::Plan));
-        };
-        if stream != 1 && stream != 2 {
-            return Err(Fault::Sheet(Missing::Stream));
-        }
+        let plan = self.plan()?;
+        let stream = Stream::try_from(stream)?;
         if path.len() < ROUTE_PLACES {
-            return Err(Fault::Sheet(Missing::Room));
+            return Err(Missing::Room.into());
         }
-        let pairs = plan.pairs;
-        if stream == 1 {
-            Ok(route_along(self.links, plan.one, pairs.source1, pairs.goal1, path))
-        } else {
-            Ok(route_along(self.links, plan.two, pairs.source2, pairs.goal2, path))
-        }
+        Ok(self.carriage(plan, stream).route(path))
     }
 }

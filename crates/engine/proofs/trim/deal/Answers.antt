@@ -1,33 +1,32 @@
-use Rattle.std.proofs.Common.{◌≡◌, ℕ, ◌+◌, ◌<◌, ◌≤◌, Bool, true, false, cond, List, ◌++◌, length, get_or, take, drop, pos, sym, ap, ◌∙◌, ⊎_elim, arith}
+use Rattle.std.proofs.Common.{◌≡◌, ◌≤◌, cond, ◌++◌, length, get_or, take, drop, pos, sym, ap, ◌∙◌, arith, w32, to_z, of_z, rules, set}
 use Rattle.std.proofs.lemmas.List.{take_all, length_push}
-use Rattle.std.proofs.lemmas.Bool.{lt-ltb, le-ltb, cases_lt}
-use Rattle.flow.specs.Trimming.{can_carry, trimmed, dealt}
+use Rattle.std.proofs.lemmas.Int.{ints}
+use Rattle.std.proofs.lemmas.Bool.{lt-ltb, le-ltb}
+use Rattle.flow.specs.Trimming.{trimmed, dealt}
 use Rattle.flow.proofs.Trims.{trimmed_yes, trimmed_no, dealt_more}
-use Rattle.engine.specs.declared.arc.Arc.{Arc}
 use Rattle.engine.specs.Arcs.{blank, limit_of}
 use Rattle.engine.proofs.trim.deal.Goals as goal
-
--- one more link is counted if it has a limit above 0
-counted : (ls : List Arc) (i n : ℕ) → i < length ls → n ≡ length (trimmed limit_of (take i ls)) → cond (can_carry limit_of (get_or ls i blank)) (n + 1) n ≡ length (trimmed limit_of (take (i + 1) ls))
-counted ls i n h e =
-    ⊎_elim
-    (λ p. ap (λ b. cond b (n + 1) n) (lt-ltb 0 _ p) ∙ omega (arith, ap length (trimmed_yes limit_of ls i blank h p), length_push (trimmed limit_of (take i ls)) (get_or ls i blank)))
-    (λ p. ap (λ b. cond b (n + 1) n) (le-ltb 0 _ p) ∙ e ∙ sym (ap length (trimmed_no limit_of ls i blank h p)))
-    (cases_lt 0 (limit_of (get_or ls i blank)))
-
-at_most : (b : Bool) (n i : ℕ) → n ≤ i → cond b (n + 1) n ≤ i + 1
-at_most true n i h = omega arith
-at_most false n i h = omega arith
+use Rattle.engine.proofs.trim.deal.Goals.{then-arc-gt0, else-arc-gt0}
 
 pub loop-i-preserved : goal.loop-i-preserved
 loop-i-preserved c =
     let links = c.args.links.now in
     let part = c.args.part.now in
+    let was = c.args.flow.now in
     let i = c.loop-i.i in
     let h = c.loop-i-test.true in
-    let room : length links ≤ length c.args.flow.now = omega arith in
-    let next-is = c.give-next.ensures.next in
-    (omega (arith, next-is, at_most (can_carry limit_of (get_or links i blank)) c.loop-i.next i c.loop-i.invariant.0), next-is ∙ counted links i c.loop-i.next h c.loop-i.invariant.1, c.give-next.ensures.flow ∙ dealt_more limit_of links i blank h part c.args.flow.now c.loop-i.flow _ room c.loop-i.invariant.2 (ap (λ n. cond (can_carry limit_of (get_or links i blank)) (get_or part n (pos 0)) (pos 0)) c.loop-i.invariant.1))
+    let room : length links ≤ length was = omega arith in
+    elim c.if-arc-gt0.branch [
+      | then-arc-gt0 w ↦
+          let read : to_z w32 (of_z w32 (get_or part c.loop-i.next (pos 0))) ≡ get_or part c.loop-i.next (pos 0) = search (rules, ints) in
+          let more = trimmed_yes limit_of links i blank h w.if-arc-gt0.true in
+          let carries = ap (λ b. cond b (get_or part (length (trimmed limit_of (take i links))) (pos 0)) (pos 0)) (lt-ltb 0 _ w.if-arc-gt0.true) in
+          (omega (arith, w.next-is, c.loop-i.invariant.0), w.next-is ∙ omega (arith, ap length more, length_push (trimmed limit_of (take i links)) (get_or links i blank), c.loop-i.invariant.1), w.flow-is ∙ ap (set c.loop-i.flow i) read ∙ dealt_more limit_of links i blank h part was c.loop-i.flow _ room c.loop-i.invariant.2 (ap (λ n. get_or part n (pos 0)) c.loop-i.invariant.1 ∙ sym carries))
+      | else-arc-gt0 w ↦
+          let more = trimmed_no limit_of links i blank h w.if-arc-gt0.false in
+          let carries = ap (λ b. cond b (get_or part (length (trimmed limit_of (take i links))) (pos 0)) (pos 0)) (le-ltb 0 _ w.if-arc-gt0.false) in
+          (omega (arith, w.next-is, c.loop-i.invariant.0), w.next-is ∙ c.loop-i.invariant.1 ∙ sym (ap length more), w.flow-is ∙ dealt_more limit_of links i blank h part was c.loop-i.flow _ room c.loop-i.invariant.2 (sym carries))
+    ]
 
 pub returns : goal.returns
 returns c =

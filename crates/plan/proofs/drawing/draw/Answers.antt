@@ -1,5 +1,4 @@
-use Rattle.std.proofs.Common.{◌≡◌, ℕ, ◌-◌, List, map, length, take, drop, sym, ap, ◌∙◌, subst, arith}
-use native.Mathlib.Nat.{sub-zero}
+use Rattle.std.proofs.Common.{◌≡◌, List, length, take, sym, ap, ◌∙◌, subst, arith}
 use Rattle.std.proofs.lemmas.List.{length-map}
 use Rattle.flow.specs.Nets.{members}
 use Rattle.flow.specs.Drawings.{Drawn}
@@ -10,33 +9,20 @@ use Rattle.plan.proofs.Lawful.{lawful_sound}
 use Rattle.plan.proofs.Drawings.{drawn_over}
 use Rattle.plan.proofs.drawing.draw.Goals as goal
 
--- the front of the array, as the code cuts it
-front : (n : ℕ) (arcs ls : List Arc) → take n arcs ≡ ls → take (n - 0) arcs ≡ ls
-front n arcs ls e = ap (λ m. take m arcs) (sub-zero n) ∙ e
-
-pub draw_halves-requires : goal.draw_halves-requires
-draw_halves-requires g c =
+pub invariant_of-jobs : goal.invariant_of-jobs
+invariant_of-jobs g c =
     let links = c.args.links.now in
     let arc = half_arc g.L.Edge.low g.L.Edge.high g.L.Edge.capacity in
-    let e = front (length links) c.halves-arcs.result (map arc links) c.halves-arcs.ensures in
-    let long : length (take (length links - 0) c.halves-arcs.result) ≡ length links = ap length e ∙ length-map links arc in
+    let long : length (take (length links) c.halves-halved.result) ≡ length links = ap length c.halves-halved.ensures ∙ length-map links arc in
     record {
       few = omega (arith, long, c.requires.lawful.few);
-      sound = subst AllSound (sym e) (lawful_sound g.L.Edge.low g.L.Edge.high g.L.Edge.capacity links c.requires.lawful);
+      sound = subst AllSound (sym c.halves-halved.ensures) (lawful_sound g.L.Edge.low g.L.Edge.high g.L.Edge.capacity links c.requires.lawful);
       proper = c.requires.proper;
-      ones = omega (arith, long, c.requires.ones);
-      twos = omega (arith, long, c.requires.twos);
     }
 
-pub returns : goal.returns
-returns g c =
-    let links = c.args.links.now in
-    let arc = half_arc g.L.Edge.low g.L.Edge.high g.L.Edge.capacity in
-    let e = front (length links) c.halves-arcs.result (map arc links) c.halves-arcs.ensures in
-    let long : length (take (length links - 0) c.halves-arcs.result) ≡ length links = ap length e ∙ length-map links arc in
-    let d = c.draw_halves in
-    record {
-      drawn = drawn_over g.L.Edge.low g.L.Edge.high g.L.Edge.capacity c.args.pairs links d.new.one d.new.two (members d.result.cut) (members d.result.first) (subst (λ (ls : List Arc). Drawn tail_of head_of limit_of c.args.pairs ls d.new.one d.new.two (members d.result.cut) (members d.result.first)) e d.ensures.drawn);
-      beyond_one = subst (λ (n : ℕ). drop n d.new.one ≡ drop n c.args.one.now) long d.ensures.beyond_one;
-      beyond_two = subst (λ (n : ℕ). drop n d.new.two ≡ drop n c.args.two.now) long d.ensures.beyond_two;
-    }
+pub returns-clause-drawn : goal.returns-clause-drawn
+returns-clause-drawn g c =
+    let s = c.share_all.new in
+    let sides = c.draw_flows-flows.result.sides in
+    drawn_over g.L.Edge.low g.L.Edge.high g.L.Edge.capacity c.args.pairs c.args.links.now s.one s.two (members sides.cut) (members sides.first)
+    (subst (λ (ls : List Arc). Drawn tail_of head_of limit_of c.args.pairs ls s.one s.two (members sides.cut) (members sides.first)) c.halves-halved.ensures (c.draw_flows-flows.ensures.drawn s.one s.two c.share_all.ensures.shares))

@@ -1,25 +1,18 @@
-use Rattle.std.proofs.Common.{◌≡◌, ℕ, ◌-◌, cond, eqb, subst, arith}
-use Rattle.flow.specs.declared.taps.Taps.{Taps}
+use Rattle.std.proofs.Common.{◌≡◌, false, Some, None, Option, sym, refl, ◌∙◌, subst}
+use Rattle.std.specs.Prelude.{is_some}
+use Rattle.std.proofs.lemmas.Bool.{true≢false}
 use Rattle.residual.specs.Networks.{links_in}
-use Rattle.preflow.proofs.Lowers.{lowest_le, lowest_least, lowest_leads}
+use Rattle.preflow.specs.declared.way.Best.{Best}
+use Rattle.preflow.specs.Ways.{UpTo}
+use Rattle.preflow.proofs.Lowers.{feed_least}
 use Rattle.preflow.proofs.lowest.lowest.Goals as goal
 
-pub returns : goal.returns
-returns c =
-    let ls = links_in c.args.network.now in
-    let at : Taps ℕ = c.args.network.now.job.now.at in
-    let most : Taps ℕ = c.args.network.now.job.now.most in
-    let r : Taps ℕ = c.args.amounts in
-    let v : ℕ = c.args.at in
-    let most-is = c.most-most.ensures in
-    let at-is = c.at-places.ensures in
-    let e1 : c.here.result ≡ cond (eqb at.drain1 v) (most.drain1 - r.drain1) 0 = subst (λ (m : Taps ℕ). c.here.result ≡ cond (eqb at.drain1 v) (m.drain1 - r.drain1) 0) most-is (subst (λ (p : Taps ℕ). c.here.result ≡ cond (eqb p.drain1 v) (c.most-most.result.drain1 - r.drain1) 0) at-is c.here.ensures) in
-    let e2 : c.here-2.result ≡ cond (eqb at.drain2 v) (most.drain2 - r.drain2) 0 = subst (λ (m : Taps ℕ). c.here-2.result ≡ cond (eqb at.drain2 v) (m.drain2 - r.drain2) 0) most-is (subst (λ (p : Taps ℕ). c.here-2.result ≡ cond (eqb p.drain2 v) (c.most-most.result.drain2 - r.drain2) 0) at-is c.here-2.ensures) in
-    let e3 : c.here-3.result ≡ cond (eqb at.feed1 v) r.feed1 0 = subst (λ (p : Taps ℕ). c.here-3.result ≡ cond (eqb p.feed1 v) r.feed1 0) at-is c.here-3.ensures in
-    let e4 : c.here-4.result ≡ cond (eqb at.feed2 v) r.feed2 0 = subst (λ (p : Taps ℕ). c.here-4.result ≡ cond (eqb p.feed2 v) r.feed2 0) at-is c.here-4.ensures in
-    let le = lowest_le ls at most r c.args.flow.now c.args.heights.now v c.requires.amounts c.over_links-a.result c.lower-b.result c.lower-c.result c.lower-d.result c.lower.result c.here.result c.here-2.result c.here-3.result c.here-4.result e1 e2 e3 e4 c.lower-b.ensures c.lower-c.ensures c.lower-d.ensures c.lower.ensures in
-    record {
-      most = omega (arith, le, c.over_links-a.ensures.most);
-      least = lowest_least ls at most r c.args.flow.now c.args.heights.now v c.requires.amounts c.over_links-a.result c.lower-b.result c.lower-c.result c.lower-d.result c.lower.result c.here.result c.here-2.result c.here-3.result c.here-4.result e1 e2 e3 e4 c.lower-b.ensures c.lower-c.ensures c.lower-d.ensures c.lower.ensures c.over_links-a.ensures.least;
-      leads = lowest_leads ls at most r c.args.flow.now c.args.heights.now v c.requires.amounts c.over_links-a.result c.lower-b.result c.lower-c.result c.lower-d.result c.lower.result c.here.result c.here-2.result c.here-3.result c.here-4.result e1 e2 e3 e4 c.lower-b.ensures c.lower-c.ensures c.lower-d.ensures c.lower.ensures (c.over_links-a.ensures.leads at most r);
-    }
+none_of : (o : Option Best) → is_some o ≡ false → o ≡ None
+none_of None e = refl
+none_of (Some b) e = absurd (true≢false e)
+
+pub returns-clause-least : goal.returns-clause-least
+returns-clause-least c m up =
+    let job = c.args.residual.now.network.now.job.now in
+    let none = none_of c.into_drain-drain.result (sym c.is_some.ensures ∙ c.if-is_some.false) in
+    feed_least (links_in c.args.residual.now.network.now) job.at job.most c.args.amounts c.args.residual.now.flow.now c.args.heights.now c.args.at c.requires.amounts (sym c.into_drain-drain.ensures ∙ none) c.over_links.result c.over_links.ensures.least m (subst (λ (o : Option Best). UpTo o m) c.into_feed.ensures up)

@@ -1,4 +1,4 @@
-use Rattle.std.proofs.Common.{◌≡◌, ℕ, ◌+◌, ◌≤◌, List, length, get_or, take, ℤ, sym, ap, ◌∙◌, subst, arith}
+use Rattle.std.proofs.Common.{◌≡◌, ℕ, ◌+◌, ◌≤◌, List, length, get_or, take, ℤ, sym, ap, subst, arith}
 use Rattle.std.specs.List.{AllByRecursion}
 use Rattle.std.proofs.lemmas.List.{take_all}
 use Rattle.search.specs.Graphs.{incident}
@@ -6,23 +6,19 @@ use Rattle.search.proofs.Meshes.{row_link, incident_complete}
 use Rattle.engine.specs.declared.arc.Arc.{Arc}
 use Rattle.residual.specs.Meshes.{mesh_of}
 use Rattle.residual.specs.Networks.{links_in}
-use Rattle.preflow.specs.Ways.{Bounds}
-use Rattle.preflow.proofs.Lowers.{scan_le, scan_leads, scan_all}
+use Rattle.preflow.specs.Ways.{Bounds, UpTo}
+use Rattle.preflow.proofs.Lowers.{scan_leads, scan_all}
 use Rattle.preflow.proofs.lowest.over_links.Goals as goal
 
-pub over_link-best-requires : goal.over_link-best-requires
-over_link-best-requires c =
-    let e = c.row-link-items.ensures ∙ c.args.network.now.indexed c.args.at c.requires.inside in
-    record {
-      listed = (row_link (mesh_of (links_in c.args.network.now)) c.args.at c.row-link-items.result.now c.loop-link.link-index e c.loop-link-test.true).0;
-      within = c.requires.within;
-      low = c.requires.low;
-    }
+pub over_link-best-requires-clause-listed : goal.over_link-best-requires-clause-listed
+over_link-best-requires-clause-listed c =
+    let e = c.row-link-items.ensures in
+    (row_link (mesh_of (links_in c.args.residual.now.network.now)) c.args.at c.row-link-items.result.now c.loop-link.link-index e c.loop-link-test.true).0
 
 pub loop-link-preserved : goal.loop-link-preserved
 loop-link-preserved c =
-    let ls : List Arc = links_in c.args.network.now in
-    let fs : List ℤ = c.args.flow.now in
+    let ls : List Arc = links_in c.args.residual.now.network.now in
+    let fs : List ℤ = c.args.residual.now.flow.now in
     let hs : List ℕ = c.args.heights.now in
     let v : ℕ = c.args.at in
     let row : List ℕ = c.row-link-items.result.now in
@@ -31,27 +27,21 @@ loop-link-preserved c =
     let inv = c.loop-link.invariant in
     let next = c.over_link-best.result in
     let step = c.over_link-best.ensures in
-    let e : c.row-link-items.result.now ≡ incident (mesh_of (links_in c.args.network.now)) c.args.at = c.row-link-items.ensures ∙ c.args.network.now.indexed c.args.at c.requires.inside in
+    let e : c.row-link-items.result.now ≡ incident (mesh_of (links_in c.args.residual.now.network.now)) c.args.at = c.row-link-items.ensures in
     let at = row_link (mesh_of ls) v row i e c.loop-link-test.true in
-    let seen = subst (λ (xs : List ℕ). AllByRecursion (Bounds ls fs hs v c.loop-link.best.height) (take i xs)) (sym e) inv.1 in (
-      omega (arith, scan_le ls fs hs v c.loop-link.best next l step, inv.0),
-      subst (λ (xs : List ℕ). AllByRecursion (Bounds ls fs hs v next.height) (take (i + 1) xs)) e (scan_all ls fs hs v c.loop-link.best next row i c.loop-link-test.true step seen),
-      (λ places most amount. scan_leads ls fs hs v c.loop-link.best next l step at.0 at.1 places most amount (inv.2 places most amount)),
+    let seen = λ (m : ℕ) (h : UpTo c.loop-link.best m). subst (λ (xs : List ℕ). AllByRecursion (Bounds ls fs hs v m) (take i xs)) (sym e) (inv.0 m h) in (
+      (λ m h. subst (λ (xs : List ℕ). AllByRecursion (Bounds ls fs hs v m) (take (i + 1) xs)) e (scan_all ls fs hs v c.loop-link.best next row i c.loop-link-test.true step seen m h)),
+      (λ places most amount. scan_leads ls fs hs v c.loop-link.best next l step at.0 at.1 places most amount (inv.1 places most amount)),
     )
 
-pub returns : goal.returns
-returns c =
-    let ls : List Arc = links_in c.args.network.now in
-    let fs : List ℤ = c.args.flow.now in
+pub returns-clause-least : goal.returns-clause-least
+returns-clause-least c m h l step =
+    let ls : List Arc = links_in c.args.residual.now.network.now in
+    let fs : List ℤ = c.args.residual.now.flow.now in
     let hs : List ℕ = c.args.heights.now in
     let v : ℕ = c.args.at in
-    let inc : List ℕ = incident (mesh_of (links_in c.args.network.now)) c.args.at in
-    let e : c.row-link-items.result.now ≡ incident (mesh_of (links_in c.args.network.now)) c.args.at = c.row-link-items.ensures ∙ c.args.network.now.indexed c.args.at c.requires.inside in
+    let inc : List ℕ = incident (mesh_of (links_in c.args.residual.now.network.now)) c.args.at in
+    let e : c.row-link-items.result.now ≡ incident (mesh_of (links_in c.args.residual.now.network.now)) c.args.at = c.row-link-items.ensures in
     let long = ap length e in
-    let le : length (incident (mesh_of (links_in c.args.network.now)) c.args.at) ≤ c.loop-link.link-index = omega (arith, long, c.loop-link-test.false) in
-    let all = subst (AllByRecursion (Bounds ls fs hs v c.loop-link.best.height)) (take_all c.loop-link.link-index inc le) c.loop-link.invariant.1 in
-    record {
-      most = c.loop-link.invariant.0;
-      least = λ l step. incident_complete (mesh_of ls) v (Bounds ls fs hs v c.loop-link.best.height) all l step.listed step.touching step;
-      leads = c.loop-link.invariant.2;
-    }
+    let le : length (incident (mesh_of (links_in c.args.residual.now.network.now)) c.args.at) ≤ c.loop-link.link-index = omega (arith, long, c.loop-link-test.false) in
+    incident_complete (mesh_of ls) v (Bounds ls fs hs v m) (subst (AllByRecursion (Bounds ls fs hs v m)) (take_all c.loop-link.link-index inc le) (c.loop-link.invariant.0 m h)) l step.listed step.touching step

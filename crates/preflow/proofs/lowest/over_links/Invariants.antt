@@ -1,14 +1,13 @@
-use Rattle.std.proofs.Common.{ℕ, ◌≤◌, take}
+use Rattle.std.proofs.Common.{ℕ, take}
 use Rattle.std.specs.List.{AllByRecursion}
 use Rattle.flow.specs.declared.taps.Taps.{Taps}
 use Rattle.search.specs.Graphs.{incident}
 use Rattle.residual.specs.Meshes.{mesh_of}
 use Rattle.residual.specs.Networks.{links_in}
-use Rattle.preflow.specs.Ways.{Bounds, Leads}
+use Rattle.preflow.specs.Ways.{Bounds, Leads, UpTo}
 use Rattle.preflow.proofs.lowest.over_links.Given as goal
 
 abbrev pub invariant-loop-link : goal.invariant-loop-link
 invariant-loop-link l =
-    (l.best.height ≤ 132)
-    × AllByRecursion (Bounds (links_in l.network) l.flow l.heights l.at l.best.height) (take l.link-index (incident (mesh_of (links_in l.network)) l.at))
-    × ((places most amount : Taps ℕ) → Leads (links_in l.network) places most amount l.flow l.heights l.at l.best.height l.best.room l.best.way)
+    ((m : ℕ) → UpTo l.best m → AllByRecursion (Bounds (links_in l.residual.network.now) l.residual.flow.now l.heights l.at m) (take l.link-index (incident (mesh_of (links_in l.residual.network.now)) l.at)))
+    × ((places most amount : Taps ℕ) → Leads (links_in l.residual.network.now) places most amount l.residual.flow.now l.heights l.at l.best)

@@ -1,7 +1,7 @@
 use Rattle.std.proofs.Common.{◌≡◌, ℕ, ◌≤◌, List, length, set, ℤ, ap, ◌∙◌, arith}
-use Rattle.std.proofs.lemmas.List.{length-take, length-set}
+use Rattle.std.proofs.lemmas.List.{length-set}
 use Rattle.engine.specs.Jobs.{links_of}
-use Rattle.residual.proofs.Raising.{onward_at, onward_more, onward_all, push_fits}
+use Rattle.residual.proofs.Raising.{onward_at, onward_more, push_fits}
 use Rattle.residual.proofs.raise.raise.Goals as goal
 
 -- a write keeps the length
@@ -17,8 +17,5 @@ push-at-requires c =
 pub loop-link-preserved : goal.loop-link-preserved
 loop-link-preserved c =
     let j = c.args.job.now in
-    let long : length (links_of j) ≤ length c.loop-link.flow = omega (arith, j.few, c.loop-link.invariant.0, length-take j.count j.arcs) in
+    let long : length (links_of j) ≤ length c.loop-link.flow = omega (arith, j.few, c.loop-link.invariant.0) in
     (written _ c.loop-link.flow _ _ c.push-at.ensures.flow c.loop-link.invariant.0, onward_more _ _ _ _ _ _ _ _ _ _ _ long (onward_at _ _ _ _ _ _ _ _ _ c.loop-link-test.true c.loop-link.invariant.1) c.push-at.ensures.flow c.push-at.ensures.next)
-
-pub returns : goal.returns
-returns c = onward_all _ _ _ _ _ _ _ _ _ c.loop-link-test.false c.loop-link.invariant.1

@@ -1,6 +1,6 @@
-use Rattle.std.proofs.Common.{◌≡◌, length}
-use Rattle.search.specs.Spreads.{Told}
+use Rattle.std.proofs.Common.{◌≡◌, ℕ, ◌<◌, false, get_or}
+use Rattle.search.specs.Spreads.{reached}
 use Rattle.search.proofs.find.tell.Given as goal
 
-abbrev pub invariant-loop-c : goal.invariant-loop-c
-invariant-loop-c l = Told l.marks l.side l.c × (length l.side ≡ 64)
+abbrev pub invariant-loop-cabinet : goal.invariant-loop-cabinet
+invariant-loop-cabinet l = (k : ℕ) → k < l.cabinet → get_or l.side k false ≡ reached l.marks k

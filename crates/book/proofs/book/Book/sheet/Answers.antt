@@ -8,4 +8,4 @@ pub new-requires : goal.new-requires
 new-requires c =
     let ledger = c.args.self.now.ledger in
     let a = asks (seen ledger) c.args.self.now.reached (held_long _ _ _ _ (omega (arith, ledger.few, ledger.ones, ledger.rows.ok.0, ledger.one.ok.0)) (omega (arith, ledger.few, ledger.twos, ledger.rows.ok.0, ledger.two.ok.0))) c.plan.result c.plan.ensures c.links.result.now c.links.ensures in
-    record { few = a.few; ruled = a.ruled; ones = a.ones; twos = a.twos; shared = a.shared; proper = a.proper }
+    record { few = a.few; ruled = a.ruled; fits = a.fits }

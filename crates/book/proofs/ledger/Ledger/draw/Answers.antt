@@ -7,7 +7,7 @@ use Rattle.book.proofs.ledger.Ledger.draw.Goals as goal
 pub returns : goal.returns
 returns g c = record {
   step =
-      drawn_step (seen c.args.self.now) c.in-Some.pairs c.as_slice.result.now c.draw-sides.new.one c.draw-sides.new.two _ _ c.draw-sides.result
-      c.in-Some.is c.as_slice.ensures.value (refilled_by _ _ _ (omega arith)) (refilled_by _ _ _ (omega arith)) c.draw-sides.ensures.drawn;
+      drawn_step (seen c.args.self.now) c.in_ok-pairs.pairs c.as_slice.result.now c.draw-sides.new.one c.draw-sides.new.two _ _ c.draw-sides.result
+      c.in_ok-pairs.ensures.ok_part c.as_slice.ensures.value (refilled_by _ _ _ (omega arith)) (refilled_by _ _ _ (omega arith)) c.draw-sides.ensures.drawn;
   stays = tt;
 }
