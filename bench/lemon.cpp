@@ -1,5 +1,5 @@
 // Solves jobs with LEMON's EdmondsKarp and Preflow, and prints for each the total fed and the nanoseconds of a run.
-// The jobs are those that `bench_engine jobs` prints: a line with a name, a number and the count of links,
+// The jobs are those that `bench_engine jobs` and `bench_rivals jobs` print: a line with a name, a number and the count of links,
 // the four cabinets, the four limits, and a line for each link.
 #include <lemon/smart_graph.h>
 // The solvers' headers rely on the graph's.

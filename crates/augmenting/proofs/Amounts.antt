@@ -1,5 +1,5 @@
 -- What stays and what grows when more is sent.
-use Rattle.std.proofs.Common.{◌≡◌, ℕ, ◌+◌, ◌-◌, ◌<◌, ◌≤◌, Bool, true, false, eqb, List, length, get_or, take, ℤ, pos, ◌+ℤ◌, ◌-ℤ◌, nat_abs, sym, refl, ap, ◌∙◌, subst, ap₂, arith}
+use Rattle.std.proofs.Common.{◌≡◌, ℕ, ◌+◌, ◌-◌, ◌<◌, ◌≤◌, Bool, true, false, eqb, List, length, get_or, ℤ, pos, ◌+ℤ◌, ◌-ℤ◌, nat_abs, sym, refl, ◌∙◌, subst, ap₂, arith}
 use Rattle.flow.specs.declared.taps.Taps.{Taps}
 use Rattle.flow.specs.Ranges.{cabinets}
 use Rattle.flow.specs.Nets.{only, net}
@@ -21,11 +21,10 @@ use Rattle.augmenting.specs.declared.pairs.Which.TheVariants.{First, Second}
 use Rattle.augmenting.specs.Pairs.{feed_of, drain_of, sent}
 
 -- a path that was found, and the least that is free on it, are an augmentation
-pub found_route : (j : Job) (fs : List ℤ) (u w most : ℕ) (path part : List ℕ) (n x : ℕ) → part ≡ take n path → x ≡ least (links_of j) fs u part most → 0 < most → SimplePath (residual (links_of j) fs 1) u (take n path) w → n < 64 → Route (links_of j) fs x u (take n path) w × (0 < x) × (x ≤ most) × (n ≤ 64)
-found_route j fs u w most path part n x e q some p short =
-    let is : x ≡ least (links_of j) fs u (take n path) most = q ∙ ap (λ k. least (links_of j) fs u k most) e in
+pub found_route : (j : Job) (fs : List ℤ) (u w most : ℕ) (path : List ℕ) (x : ℕ) → x ≡ least (links_of j) fs u path most → 0 < most → SimplePath (residual (links_of j) fs 1) u path w → Route (links_of j) fs x u path w × (0 < x) × (x ≤ most)
+found_route j fs u w most path x is some p =
     let o = p.open_steps in
-    (route_of (links_of j) fs x u (take n path) w (job_lawful j) p (least_open (links_of j) fs u (take n path) most x (omega (arith, is)) o), omega (arith, is, least_some (links_of j) fs u (take n path) most some o), omega (arith, is, least_most (links_of j) fs u (take n path) most), omega arith)
+    (route_of (links_of j) fs x u path w (job_lawful j) p (least_open (links_of j) fs u path most x (omega (arith, is)) o), omega (arith, is, least_some (links_of j) fs u path most some o), omega (arith, is, least_most (links_of j) fs u path most))
 
 only_add : (b : Bool) (m n : ℕ) → only b (pos (m + n)) ≡ only b (pos m) +ℤ only b (pos n)
 only_add true m n = refl

@@ -28,10 +28,10 @@ pub record Continues (was after : Run) : Type 0 where
   pub less : left_in after + after.raises ≤ left_in was + was.raises
   pub still : after.raises ≡ was.raises → (after.flow ≡ was.flow) × (after.amounts ≡ was.amounts)
 
--- the flow was raised; or a side blocks the pair
+-- the flow was raised; or it was not, and a side blocks the pair
 abbrev pub Turned : (was after : Run) → Pair → Result Unit (List Bool) → Type 0
 Turned was after p (Ok _) = was.raises < after.raises
-Turned was after p (Err side) = BlockedIn after p (members side)
+Turned was after p (Err side) = (after.raises ≡ was.raises) × BlockedIn after p (members side)
 
 -- the flow was raised; or the total fed is what the side costs
 abbrev pub Ended : (was after : Run) → Option (List Bool) → Type 0

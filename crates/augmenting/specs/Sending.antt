@@ -1,5 +1,5 @@
 -- Sending more from a feed to a drain.
-use Rattle.std.specs.Prelude.{◌≡◌, ℕ, ◌+◌, ◌-◌, ◌<◌, ◌≤◌, Bool, true, false, List, take, ℤ, Some, None, Option, Ok, Err, Result}
+use Rattle.std.specs.Prelude.{◌≡◌, ℕ, ◌+◌, ◌-◌, ◌<◌, ◌≤◌, Bool, true, false, List, length, ℤ, Ok, Err, Result}
 use Rattle.flow.specs.declared.taps.Taps.{Taps}
 use Rattle.flow.specs.Ranges.{cabinets}
 use Rattle.search.specs.Graphs.{Step, across}
@@ -14,9 +14,9 @@ use Rattle.augmenting.specs.declared.sending.Augmentation.{Augmentation}
 use Rattle.augmenting.specs.Pairs.{feed_of, drain_of}
 
 -- what a search for a path with something free answers
-abbrev pub Sought : List Arc → List ℤ → (u w most : ℕ) → Option Augmentation → List ℕ → List Bool → Type 0
-Sought ls fs u w most None path side = Separates (residual ls fs 1) u w side
-Sought ls fs u w most (Some a) path side = Route ls fs a.by u (take a.count path) w × (0 < a.by) × (a.by ≤ most) × (a.count ≤ 64)
+abbrev pub Sought : List Arc → List ℤ → (u w most : ℕ) → Result Augmentation (List Bool) → Type 0
+Sought ls fs u w most (Ok a) = Route ls fs a.by u a.path.now w × (0 < a.by) × (a.by ≤ most) × (length a.path.now ≤ 64)
+Sought ls fs u w most (Err side) = Separates (residual ls fs 1) u w side
 
 -- some was sent from u to w, at most `most`; or nothing since there is no path
 abbrev pub Sent : List Arc → (was fs : List ℤ) → (most u w : ℕ) → Result ℕ (List Bool) → Type 0

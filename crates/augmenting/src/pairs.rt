@@ -17,6 +17,7 @@ pub struct Pair {
     pub to: Which,
 }
 
+// Kept: this and `drain` differ in the fields that they read, and an engine knows nothing of streams, so the two are named here.
 pub fn feed<T: Copy>(taps: Taps<T>, which: Which) -> T
     ensures { result ≡ feed_of taps which }
 {

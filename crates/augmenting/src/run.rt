@@ -23,6 +23,7 @@ pub struct Run<'a> {
 
 impl Run<'_> {
     ghost use Rattle.augmenting.specs.Runs.{Continues, Turned, Ended, BlockedIn};
+    // Kept: how far a step may change a run is a promise of each step and no fact about a run.
 
     // Sends more from a feed to a drain over one path; or answers a side that blocks the pair, where it cannot.
     fn turn(&mut self, pair: Pair) -> Result<(), [bool; 64]>
@@ -65,6 +66,7 @@ impl Run<'_> {
         ensures ended { Ended self.old self.new result }
     {
         let before = self.raises;
+        // Kept: the four sides are joined each by its name; a loop would need a place for each and lose which is which.
         let one_one = self.exhaust(Which::First, Which::First);
         let one_two = self.exhaust(Which::First, Which::Second);
         let two_one = self.exhaust(Which::Second, Which::First);

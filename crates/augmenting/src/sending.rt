@@ -10,34 +10,37 @@ use residual::raise::{least_free, raise};
 use residual::residual::Residual;
 use search::find::find_path;
 
-// A path's number of links, and how much more can go over it.
+// A path with something free on each link, and how much more can go over it.
 #[derive(Clone, Copy)]
-pub struct Augmentation {
-    pub count: usize,
+pub struct Augmentation<'p> {
+    pub path: &'p [u16],
     pub by: u32,
 }
 
-// A path with something free on each link, written to the front of `path`, and how much of `most` can go over it;
-// or none, and a side that no open step leaves.
-fn seek<'a>(
-    network: &'a Network<'a>,
-    flow: &'a [i32; 512],
+// A path with something free on each link, written to the front of `links`, and how much of `most` can go over it;
+// or a side that no open step leaves, where there is no path.
+fn seek<'p>(
+    network: &Network<'_>,
+    flow: &[i32; 512],
     from: u8,
     to: u8,
     most: u32,
-    path: &mut [u16; 64],
-    side: &mut [bool; 64],
-) -> Option<Augmentation>
+    links: &'p mut [u16; 64],
+) -> Result<Augmentation<'p>, [bool; 64]>
     requires within { Within limit_of (links_in network.now) flow.now }
     requires from { from < 64 }
     requires to { to < 64 }
     requires some { 0 < most }
-    ensures { Sought (links_in network.now) flow.now from to most result path.new side.new }
+    ensures { Sought (links_in network.now) flow.now from to most result }
 {
     let ground = Residual { network, flow };
-    let count = find_path(&ground, from, to, path, side)?;
-    let by = least_free(&ground, from, &path[0..count], most);
-    Some(Augmentation { count, by })
+    let mut side = [false; 64];
+    let Some(count) = find_path(&ground, from, to, links, &mut side) else {
+        return Err(side);
+    };
+    let path = &links[..count];
+    let by = least_free(&ground, from, path, most);
+    Ok(Augmentation { path, by })
 }
 
 // Sends up to `most` more from one cabinet to another over one path, and says how much;
@@ -55,13 +58,8 @@ pub fn send(
     requires some { 0 < most }
     ensures { Sent (links_in network.now) flow.old flow.new most from to result }
 {
-    let mut path = [0; 64];
-    let mut side = [false; 64];
-    match seek(&*network, &*flow, from, to, most, &mut path, &mut side) {
-        Some(found) => {
-            raise(network.job, flow, from, &path[0..found.count], found.by);
-            Ok(found.by)
-        }
-        None => Err(side),
-    }
+    let mut links = [0; 64];
+    let Augmentation { path, by } = seek(network, flow, from, to, most, &mut links)?;
+    raise(network.job, flow, from, path, by);
+    Ok(by)
 }

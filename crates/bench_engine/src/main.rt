@@ -64,7 +64,7 @@ impl Bench<'_> {
     }
 
     // Shows the job over these links of stream 1 up to `x` and stream 2 up to `y`, and answers what it is fed;
-    // 0 where a number is out of range.
+    // or none where a number is out of range.
     fn show_both(
         self,
         number: u32,
@@ -72,11 +72,26 @@ impl Bench<'_> {
         pairs: Pairs,
         x: u32,
         y: u32,
-    ) -> io::Result<u32> {
+    ) -> io::Result<Option<u32>> {
         match Job::new(links, pairs.ends(), Taps::both(x, y)) {
-            Some(job) => self.show("draw", number, &job),
-            None => Ok(0),
+            Some(job) => Ok(Some(self.show("draw", number, &job)?)),
+            None => Ok(None),
         }
+    }
+
+    // The first three jobs of a draw, and what they leave for each stream.
+    fn bound(self, number: u32, links: &[Arc], pairs: Pairs) -> io::Result<Option<(u32, u32)>> {
+        let Some(alone) = self.show_both(number, links, pairs, MOST_FED, 0)? else {
+            return Ok(None);
+        };
+        let Some(ahead) = self.show_both(number, links, pairs, alone, MOST_FED)? else {
+            return Ok(None);
+        };
+        let turned = pairs.turned();
+        let Some(behind) = self.show_both(number, links, turned, alone, MOST_FED)? else {
+            return Ok(None);
+        };
+        Ok(Some((alone, ahead.min(behind).saturating_sub(alone))))
     }
 
     // The five jobs of a draw over the links and ends of a job, in their order.
@@ -94,27 +109,21 @@ impl Bench<'_> {
             source2: feed2,
             goal2: drain2,
         };
-        let alone = self.show_both(number, links, pairs, MOST_FED, 0)?;
-        let ahead = self.show_both(number, links, pairs, alone, MOST_FED)?;
-        let behind = self.show_both(number, links, pairs.turned(), alone, MOST_FED)?;
-        let rest = ahead.min(behind).saturating_sub(alone);
-        self.show_both(number, links, pairs, alone, rest)?;
-        self.show_both(number, links, pairs.turned(), alone, rest)?;
+        if let Some((alone, rest)) = self.bound(number, links, pairs)? {
+            self.show_both(number, links, pairs, alone, rest)?;
+            self.show_both(number, links, pairs.turned(), alone, rest)?;
+        }
         Ok(())
     }
 }
 
-// What the last argument that names a mode asks for.
-fn mode_of(rt: &HostRuntime) -> io::Result<Mode> {
-    let named = env::args(rt)?.filter_map(|word| Mode::try_from(word.as_str()).ok());
-    Ok(named.last().unwrap_or(Mode::Totals))
-}
-
 fn main(rt: HostRuntime) -> io::Result<()> {
-    let bench = Bench {
-        rt: &rt,
-        mode: mode_of(&rt)?,
-    };
+    // The last argument that names a mode asks for it.
+    let mode = env::args(&rt)?.fold(
+        Mode::Totals,
+        |mode, word| Mode::try_from(word.as_str()).unwrap_or(mode),
+    );
+    let bench = Bench { rt: &rt, mode };
     let shape = Shape {
         links: MOST_LINKS,
         cabinets: 64,

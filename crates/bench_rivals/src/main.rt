@@ -77,14 +77,12 @@ fn show(rt: &HostRuntime, mode: Mode, number: u32, job: &Job<'_>) -> io::Result<
     )
 }
 
-// What the last argument that names a mode asks for.
-fn mode_of(rt: &HostRuntime) -> io::Result<Mode> {
-    let named = env::args(rt)?.filter_map(|word| Mode::try_from(word.as_str()).ok());
-    Ok(named.last().unwrap_or(Mode::Totals))
-}
-
 fn main(rt: HostRuntime) -> io::Result<()> {
-    let mode = mode_of(&rt)?;
+    // The last argument that names a mode asks for it.
+    let mode = env::args(&rt)?.fold(
+        Mode::Totals,
+        |mode, word| Mode::try_from(word.as_str()).unwrap_or(mode),
+    );
     let mut random = Random { state: 1 };
     let mut room = [Arc::default(); 512];
     for links in [64, 128, 256, 512] {

@@ -57,8 +57,9 @@ fn run(rt: &HostRuntime, count: u16, cabinets: u8, times: u32) -> io::Result<()>
     if !is_mesh(links) {
         return println!(rt; "    is no mesh");
     }
+    let net = Net::of(links);
     let ground = Slotted {
-        net: Net::of(links),
+        net: &net,
         slots: &[1; 512],
     };
     measure(rt, &ground, times)

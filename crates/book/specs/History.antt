@@ -18,6 +18,7 @@ pub record State : Type 0 where
   pub trial : Option Trial
   pub plan : Option Plan
 
+-- a state of these four parts
 abbrev pub state : List Row → Option Pairs → Option Trial → Option Plan → State
 state rows pairs trial plan = record { rows = rows; pairs = pairs; trial = trial; plan = plan }
 

@@ -10,7 +10,6 @@ pub struct Trial {
 }
 
 // What a trial hands out, with the numbers of the trial. It cannot be let go: `close` takes it.
-#[derive(Debug, PartialEq, Eq)]
 pub struct Receipt {
     pub(crate) trial: Trial,
 }
@@ -32,7 +31,6 @@ impl Receipt {
 }
 
 // A close that was refused: the receipt comes back with the reason.
-#[derive(Debug, PartialEq, Eq)]
 pub struct Refused {
     pub receipt: Receipt,
     pub fault: Fault,

@@ -1,3 +1,4 @@
 pub mod Arcs
 pub mod Jobs
 pub mod Totals
+pub mod Texts

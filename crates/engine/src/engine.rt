@@ -10,6 +10,7 @@ use crate::job::Job;
 use flow::taps::Taps;
 
 // An engine answers every job, and refuses none, with a flow for each link, the four amounts and a side (a set of cabinets).
+// Kept: an array for the most links has room for every job, so that no caller has to show that its list is long enough.
 pub trait Engine {
     // No flow exceeds its link's limit in size; each amount is at most its limit; in every cabinet
     // outflow minus inflow is what is fed there minus what is drained there; the total fed is the

@@ -19,7 +19,7 @@ fn pick(links: &[Arc], chosen: &mut [Arc; 512]) -> usize
     ensures bound { result ≤ 512 }
     ensures kept { take result chosen.new ≡ trimmed limit_of links.now }
 {
-    // Kept: what is counted is the place to write, which a `filter` in front of the loop would not give.
+    // Kept: how many links were written is the answer, so the count outlives the loop; `enumerate` would lose it.
     let mut count = 0;
     for arc in links {
         if arc.limit > 0 {
@@ -36,6 +36,7 @@ fn deal(links: &[Arc], part: &[i32; 512], flow: &mut [i32; 512])
     ensures { flow.new ≡ dealt limit_of links.now part.now ++ drop (length links.now) flow.old }
 {
     let mut next = 0;
+    // Kept: two lists are walked, one of them only at links that can carry; after `iter_mut` nothing is known of what an adapter wrote.
     for (i, arc) in links.iter().enumerate() {
         if arc.limit > 0 {
             flow[i] = part[next];

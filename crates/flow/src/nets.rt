@@ -24,6 +24,7 @@ pub fn link_net<E: Edge>(link: &E, share: i32, cabinet: u8) -> i64
 }
 
 // What leaves the cabinet over all links minus what enters it.
+// Kept: a slice carries no bound on its length, and a wrapper that does would be made anew for each call, here and in sides.
 pub fn net_at<E: Edge>(links: &[E], shares: &[i32], cabinet: u8) -> i64
     requires few { length links.now ≤ most_links }
     requires long { length links.now ≤ length shares.now }

@@ -2,8 +2,6 @@
 ghost use Rattle.std.specs.Prelude.{◌≡◌, true, false, ◌⊎◌};
 ghost use Rattle.flow.specs.Drawings.{both_of};
 
-use std::fmt;
-
 #[derive(Clone, Copy)]
 pub struct Taps<T> {
     pub feed1: T,
@@ -34,16 +32,5 @@ impl Taps<u32> {
             drain1: x,
             drain2: y,
         }
-    }
-}
-
-// The four values, feeds before drains.
-impl<T: fmt::Display> fmt::Display for Taps<T> {
-    fn fmt<W: fmt::Write>(&self, f: &mut fmt::Formatter<W>) -> fmt::Result {
-        write!(
-            f,
-            "{} {} {} {}",
-            self.feed1, self.feed2, self.drain1, self.drain2
-        )
     }
 }

@@ -1,4 +1,4 @@
-// The grounds over a net.
+// The grounds over a net, which is lent: several grounds may share one.
 ghost use Rattle.std.specs.Prelude.{◌<◌};
 ghost use Rattle.search.specs.Nets.{links_in, lawful_in};
 ghost use Rattle.grounds.specs.Views.{slotted, one_way};
@@ -10,14 +10,15 @@ use search::net::Net;
 // Links that are open both ways while they have slots. (A slot is a unit of a link's capacity.)
 #[derive(Drop)]
 pub struct Slotted<'a> {
-    pub net: Net<'a, Ends>,
+    pub net: &'a Net<'a, Ends>,
     pub slots: &'a [u32],
 }
 
+// Kept: what every ground asks of its net is one call each; a default in the trait would need the type of the links in it.
 impl<'a> Ground for Slotted<'a> {
-    ghost graph = { λ s. slotted (links_in s.net) s.slots.now };
+    ghost graph = { λ s. slotted (links_in s.net.now) s.slots.now };
 
-    ghost lawful = { λ s. lawful_in s.net };
+    ghost lawful = { λ s. lawful_in s.net.now };
 
     fn links(&self) -> u16 {
         self.net.count()
@@ -41,13 +42,13 @@ impl<'a> Ground for Slotted<'a> {
 // Links that are open from their first end alone.
 #[derive(Drop)]
 pub struct OneWay<'a> {
-    pub net: Net<'a, Ends>,
+    pub net: &'a Net<'a, Ends>,
 }
 
 impl<'a> Ground for OneWay<'a> {
-    ghost graph = { λ s. one_way (links_in s.net) };
+    ghost graph = { λ s. one_way (links_in s.net.now) };
 
-    ghost lawful = { λ s. lawful_in s.net };
+    ghost lawful = { λ s. lawful_in s.net.now };
 
     fn links(&self) -> u16 {
         self.net.count()

@@ -12,8 +12,9 @@ fn a_link_without_slots_is_shut(rt: HostRuntime) {
     let links = [(0, 1), (1, 0), (1, 2), (3, 2)].map(Ends::from);
     let slots = [0u32, 2, 4, 0];
     assert!(rt; is_mesh(&links));
+    let net = Net::of(&links);
     let ground = Slotted {
-        net: Net::of(&links),
+        net: &net,
         slots: &slots,
     };
     let mut path = [99u16; 64];
@@ -31,9 +32,8 @@ fn a_link_without_slots_is_shut(rt: HostRuntime) {
 fn a_one_way_ring_is_walked_in_its_direction(rt: HostRuntime) {
     let links = [(0, 1), (1, 2), (2, 3), (3, 0)].map(Ends::from);
     assert!(rt; is_mesh(&links));
-    let ground = OneWay {
-        net: Net::of(&links),
-    };
+    let net = Net::of(&links);
+    let ground = OneWay { net: &net };
     let mut path = [99u16; 64];
     let mut side = [false; 64];
     assert!(rt; find_path(&ground, 0, 1, &mut path, &mut side) == Some(1));

@@ -23,6 +23,7 @@ pub(crate) enum Drawer {
     TrimOverPreflow,
 }
 
+// Kept: an order of a file draws with the engine of its run, and a call here names one.
 #[derive(Clone, Copy)]
 pub(crate) enum Call {
     Add(u8, u8, u32),
@@ -60,6 +61,7 @@ impl fmt::Display for Call {
 }
 
 // The streams' ends: stream one's source and goal, then stream two's.
+// Kept: two programs have this shorthand; a public one would give up the names that keep the four numbers apart.
 pub(crate) fn ends(source1: u8, goal1: u8, source2: u8, goal2: u8) -> Pairs {
     Pairs {
         source1,
@@ -70,6 +72,7 @@ pub(crate) fn ends(source1: u8, goal1: u8, source2: u8, goal2: u8) -> Pairs {
 }
 
 // Draws with one of the engines.
+// Kept: the engines are of different types, and a call of a history is data that is printed, so the choice is a value.
 pub(crate) fn draw(book: &mut Book, drawer: Drawer) -> Result<(), Fault>
     ensures { Step (view book.old) Draw result (view book.new) }
 {
@@ -82,6 +85,7 @@ pub(crate) fn draw(book: &mut Book, drawer: Drawer) -> Result<(), Fault>
 }
 
 // Makes the call on the book. None of these calls begins or closes a trial.
+// Kept: here and in what prints calls, that a trial stays is a promise of each function and no fact about a book.
 pub(crate) fn make(book: &mut Book, call: Call) -> Result<(), Fault>
     ensures { (view book.new).trial ≡ (view book.old).trial }
 {

@@ -34,10 +34,7 @@ fn tell(rt: &HostRuntime, book: &Book, call: Call, answer: Result<(), Fault>) ->
     match answer {
         Ok(()) => {
             print!(rt; "ok, held ")?;
-            match book.audit() {
-                Ok(totals) => println!(rt; "{totals}"),
-                Err(_) => println!(rt; "nothing"),
-            }
+            print_told(rt, book.audit().map_err(|_fault| "nothing"))
         }
         Err(fault) => println!(rt; "{fault}"),
     }

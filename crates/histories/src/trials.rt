@@ -23,10 +23,7 @@ pub(crate) fn begin(book: &mut Book, link: u16) -> Result<Receipt, Fault>
 pub(crate) fn close(book: &mut Book, receipt: Receipt)
     requires { (view book.old).trial ≡ Some (trial_of receipt) }
 {
-    match book.close(receipt) {
-        Ok(()) => (),
-        Err(_) => unreachable(),
-    }
+    book.close(receipt).unwrap()
 }
 
 fn print_receipt(rt: &HostRuntime, receipt: &Receipt) -> io::Result<()> {
@@ -50,10 +47,8 @@ fn print_second(rt: &HostRuntime, book: &mut Book, link: u16) -> io::Result<()>
     ensures { (view book.new).trial ≡ (view book.old).trial }
 {
     print!(rt; "  begin {link}: ")?;
-    match book.begin(link) {
-        Ok(_receipt) => unreachable(),
-        Err(fault) => println!(rt; "{fault}"),
-    }
+    let fault = book.begin(link).unwrap_err();
+    println!(rt; "{fault}")
 }
 
 const WHILE_OUT: [Call; 8] = [
@@ -145,14 +140,10 @@ fn close_crossed(
         close(two, second);
         return println!(rt; "  the same link");
     }
-    match one.close(second) {
-        Ok(()) => unreachable(),
-        Err(Refused { receipt, fault }) => {
-            close(one, first);
-            close(two, receipt);
-            print_handed_back(rt, fault)
-        }
-    }
+    let Refused { receipt, fault } = one.close(second).unwrap_err();
+    close(one, first);
+    close(two, receipt);
+    print_handed_back(rt, fault)
 }
 
 fn refuse_no_trial(rt: &HostRuntime) -> io::Result<()> {

@@ -1,4 +1,5 @@
 // A book's links, for an index of incident links.
+// Kept: `flow` and `search` know nothing of one another, so a row is a link of both kinds.
 ghost use Rattle.mesh.specs.Links.{blank, low_of, high_of};
 
 use crate::row::Row;

@@ -43,6 +43,7 @@ impl Kind {
     }
 }
 
+// Kept: three matches, here, in `mark` and in what is told, are plainer than a table that is searched.
 impl TryFrom<[u8; 2]> for Kind {
     type Error = RecordFault;
 

@@ -6,6 +6,7 @@ ghost use Rattle.orders.specs.Readings.{item};
 use crate::kind::Kind;
 
 // One record of an order file, with its body as a part of the file.
+// Kept: by the project's rule each case holds its part of the file, so the cases repeat the kinds.
 #[derive(Clone, Copy)]
 pub enum Record<'a> {
     Lk(&'a [u8]),
@@ -24,6 +25,7 @@ pub enum RecordFault {
     Unknown,
 }
 
+// Kept: `number` says which number is meant, which `u8::from` would not.
 impl RecordFault {
     // The number under which the fault is reported.
     pub fn number(self) -> u8

@@ -15,6 +15,7 @@ pub struct Survey {
 
 impl Survey {
     // Reads the file record by record to where reading stops.
+    // Kept: a run's loop is like this one, but its turns change a book and can fail for want of memory.
     pub fn of(file: &[u8]) -> Survey
         ensures { Surveyed file.now result }
     {

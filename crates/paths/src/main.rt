@@ -9,6 +9,7 @@ use search::net::Net;
 use std::{fmt, io};
 
 // A stream from a source to a goal.
+// Kept: this program stands on the search alone, which knows no plans and so no pairs.
 #[derive(Clone, Copy)]
 struct Stream {
     source: u8,
@@ -91,10 +92,8 @@ fn print_mesh(
     if !is_mesh(links) {
         return println!(rt; "  is no mesh");
     }
-    let ground = Slotted {
-        net: Net::of(links),
-        slots,
-    };
+    let net = Net::of(links);
+    let ground = Slotted { net: &net, slots };
     for stream in streams {
         print_search(rt, &ground, stream)?;
     }

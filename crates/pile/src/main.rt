@@ -5,13 +5,15 @@ use augmenting::augmenting::Augmenting;
 use engine::arc::Arc;
 use engine::greatest::greatest_total;
 use engine::trim::Trim;
+use flow::ranges::{MOST_FED, MOST_LIMIT};
 use samples::jobs::{Shape, next_job};
 use samples::random::Random;
 use std::io;
 
 // The shape of a job: small ones first, then the largest; small limits, so that many are 0, and wide ones in turn.
+// Kept: five numbers of this shape differ from the rivals', so a shared function would be handed them all and say less.
 fn shape_of(number: u8) -> Shape {
-    let limits = if number % 2 == 0 { 5 } else { 524_288 };
+    let limits = if number % 2 == 0 { 5 } else { MOST_LIMIT };
     Shape {
         links: if number < 28 {
             3 + 2 * number as usize
@@ -21,7 +23,7 @@ fn shape_of(number: u8) -> Shape {
         cabinets: if number < 28 { 2 + number / 3 } else { 64 },
         limits,
         fed: if number % 3 == 0 {
-            536_870_912
+            MOST_FED
         } else {
             3 * limits
         },

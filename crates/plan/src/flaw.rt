@@ -20,6 +20,7 @@ pub enum Flaw {
     First,
 }
 
+// Kept: `number` and `place` say which number is meant, which conversions would not.
 impl Flaw {
     // The number by which the flaw is reported.
     pub fn number(self) -> u8

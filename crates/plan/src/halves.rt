@@ -22,6 +22,7 @@ pub fn halves<L: Edge>(links: &[L]) -> [Arc; 512]
     ensures { take (length links.now) result ≡ map (half_arc L.Edge.low L.Edge.high L.Edge.capacity) links.now }
 {
     let mut arcs = [Arc::default(); 512];
+    // Kept: the links go to the front of an array in fixed memory, and after `iter_mut` under a zip nothing is known of the places written.
     for (i, link) in links.iter().enumerate() {
         arcs[i] = half(link);
     }

@@ -42,6 +42,7 @@ impl<'a> Jobs<'a> {
     }
 
     // Has the engine solve the job of stream 1 up to x and stream 2 up to y.
+    // Kept: here and below x and y are two numbers with a bound each; a struct of both would be made for each call.
     fn solve<E: Engine>(
         &self,
         engine: &mut E,

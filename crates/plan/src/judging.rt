@@ -25,6 +25,7 @@ fn are_fitting<L: Edge>(links: &[L], plan: &Plan) -> bool
 }
 
 // Whether a sum of totals is the side's slots.
+// Kept: here, in `halves` and in `judge` the links are a slice, which carries no bound; `Fitted` does once a plan fits them.
 fn fills<L: Edge>(sum: i128, links: &[L], side: &[bool]) -> bool
     requires { length links.now ≤ most_links }
     ensures { result ≡ equal sum (pos (side_slots L.Edge.low L.Edge.high L.Edge.capacity (members side.now) links.now)) }

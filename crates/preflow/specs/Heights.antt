@@ -1,5 +1,5 @@
 -- Heights of the cabinets. The outer source, from which the feeds come, stands at 66, and the outer sink, to which the drains go, at 0.
-use Rattle.std.specs.Prelude.{◌≡◌, ℕ, ◌+◌, ◌<◌, ◌≤◌, max, cond, ◌⊎◌, List, ℤ, ◌≢◌, nat_lt, slice_index, slice_set}
+use Rattle.std.specs.Prelude.{◌≡◌, ℕ, ◌+◌, ◌<◌, ◌≤◌, max, if◌then◌else◌, ◌⊎◌, List, ℤ, ◌≢◌, nat_lt, slice_index, slice_set}
 use Rattle.flow.specs.declared.taps.Taps.{Taps}
 use Rattle.flow.specs.Ranges.{cabinets}
 use Rattle.search.specs.Graphs.{Step, across}
@@ -14,6 +14,7 @@ high hs v = slice_index hs v
 abbrev pub most_height : ℕ
 most_height = 131
 
+-- each cabinet stands below the height that none reaches
 abbrev pub Low : List ℕ → Type 0
 Low hs = (w : ℕ) → w < cabinets → high hs w < most_height
 
@@ -39,9 +40,9 @@ Empty hs k = (w : ℕ) → w < cabinets → high hs w ≢ k
 
 -- a height above the level k is raised to 67 at least
 abbrev pub over_top : ℕ → ℕ → ℕ
-over_top k h = cond (nat_lt k h) (max h 67) h
+over_top k h = (if nat_lt k h then max h 67 else h)
 
--- so is every cabinet above the level k
+-- every cabinet above the level k is raised to 67 at least, and the others stay
 abbrev pub Raised : ℕ → (hs after : List ℕ) → Type 0
 Raised k hs after = (w : ℕ) → w < cabinets → high after w ≡ over_top k (high hs w)
 

@@ -29,7 +29,7 @@ pub record Stays (was after : Run) : Type 0 where
   pub lent : after.flow.ghost_name ≡ was.flow.ghost_name
   pub beyond : drop (length (links_in was.network.now)) after.flow.now ≡ drop (length (links_in was.network.now)) was.flow.now
 
--- and the measure falls
+-- the run is still for the same job, and the measure falls
 pub record Goes (was after : Run) : Type 0 where
   pub stays : Stays was after
   pub falls : left after.state < left was.state

@@ -12,6 +12,7 @@ use Rattle.preflow.specs.declared.way.Way.TheVariants.{Over, Drain1, Drain2, Fee
 abbrev pub carried : List Arc → List ℤ → (v l by : ℕ) → List ℤ
 carried ls fs v l by = slice_set fs l (slice_index_or fs l (pos 0) +ℤ toward (ahead ls v l) (pos by))
 
+-- the flow with `by` more along a way out of v: only a way over a link changes it
 abbrev pub sent_flow : List Arc → List ℤ → (v by : ℕ) → Way → List ℤ
 sent_flow ls fs v by (Over l) = carried ls fs v l by
 sent_flow ls fs v by Drain1 = fs
@@ -19,7 +20,7 @@ sent_flow ls fs v by Drain2 = fs
 sent_flow ls fs v by Feed1 = fs
 sent_flow ls fs v by Feed2 = fs
 
--- a drain takes more, a feed takes back
+-- the amounts with `by` more along a way: a drain takes more, a feed takes back
 abbrev pub sent_amounts : Taps ℕ → ℕ → Way → Taps ℕ
 sent_amounts a by (Over l) = a
 sent_amounts a by Drain1 = record { feed1 = a.feed1; feed2 = a.feed2; drain1 = a.drain1 + by; drain2 = a.drain2 }

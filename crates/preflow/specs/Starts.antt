@@ -1,5 +1,5 @@
 -- The preflow to start from: all that the feeds let in stands at their cabinets, and heights are distances to the drains.
-use Rattle.std.specs.Prelude.{◌≡◌, ℕ, ◌+◌, ◌<◌, ◌≤◌, cond, ◌⊎◌, List, [], replicate, ℤ, pos, nat_lt, slice_index, slice_index_or}
+use Rattle.std.specs.Prelude.{◌≡◌, ℕ, ◌+◌, ◌<◌, ◌≤◌, if◌then◌else◌, ◌⊎◌, List, [], replicate, ℤ, pos, nat_lt, slice_index, slice_index_or}
 use Rattle.flow.specs.declared.taps.Taps.{Taps}
 use Rattle.flow.specs.Ranges.{cabinets}
 use Rattle.search.specs.Graphs.{Step, across}
@@ -23,7 +23,7 @@ Still n fs = (k : ℕ) → k < n → slice_index_or fs k (pos 0) ≡ pos 0
 
 -- of the cabinets below n those with an excess wait once, and no other does
 abbrev pub Lined : List ℕ → ℕ → List ℕ → Type 0
-Lined ex n qs = (v : ℕ) → times v qs ≡ cond (nat_lt v n) (cond (nat_lt 0 (slice_index ex v)) 1 0) 0
+Lined ex n qs = (v : ℕ) → times v qs ≡ (if nat_lt v n then (if nat_lt 0 (slice_index ex v) then 1 else 0) else 0)
 
 -- each step into the cabinet x that is open before anything flows comes from the height m at most
 abbrev pub Into : List Arc → List ℕ → (x m : ℕ) → Type 0

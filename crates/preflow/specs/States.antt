@@ -35,7 +35,7 @@ dot [] hs = 0
 dot (e ∷ es) [] = 0
 dot (e ∷ es) (h ∷ hs) = e * h + dot es hs
 
--- falls with each turn: a relabel takes from the first part, a push from the second
+-- what falls with each turn: a relabel takes from the first part, a push from the second
 abbrev pub measure : List ℕ → List ℕ → ℕ
 measure ex hs = (8384 - sum hs) * 2 ^ 40 + dot ex hs
 
@@ -43,10 +43,11 @@ measure ex hs = (8384 - sum hs) * 2 ^ 40 + dot ex hs
 abbrev pub Standing : Network → List ℤ → State → Type 0
 Standing n fs s = Labeled (links_in n) n.job.now.at n.job.now.most s.amounts fs s.excess s.heights
 
--- and just the cabinets with an excess wait
+-- the program's own state is a preflow with valid heights, and just the cabinets with an excess wait
 pub record Active (n : Network) (fs : List ℤ) (s : State) (qs : List ℕ) : Type 0 where
   pub standing : Standing n fs s
   pub queued : Queued s.excess qs
 
+-- the measure of what the program keeps
 abbrev pub left : State → ℕ
 left s = measure s.excess s.heights

@@ -1,4 +1,5 @@
 // The heights to start from: distances to the drains, by one backward search, level by level.
+// Kept: cabinets are plain numbers by a rule of the project, so here and in this crate a contract says of one that it is below 64.
 ghost use Rattle.std.specs.Prelude.{◌≡◌, ℕ, ◌+◌, ◌<◌, ◌≤◌, length, replicate, slice_index_or};
 ghost use Rattle.flow.specs.Ranges.{cabinets};
 ghost use Rattle.search.specs.Graphs.{across};
@@ -14,6 +15,7 @@ use residual::network::Network;
 use residual::raise::far_end;
 
 // Lowers a cabinet to `height`, if it stands higher.
+// Kept: that heights only fall is a promise of each step, here and below, and no fact about heights.
 fn lower_to(heights: &mut [u8; 64], at: u8, height: u8)
     requires { at < 64 }
     ensures lowered { Lowered height heights.old heights.new }
@@ -53,7 +55,7 @@ fn next_level(network: &Network<'_>, heights: &mut [u8; 64], level: u8)
     ensures lowered { Lowered (level + 1) heights.old heights.new }
     ensures into { (x : ℕ) → x < 64 → high heights.new x ≡ level → Into (links_in network.now) heights.new x (level + 1) }
 {
-    // Kept: a step of the loop lowers the heights that the loop reads, so it cannot borrow them.
+    // Kept: a step of the loop lowers the heights that the loop reads; to walk over a copy of them would be no plainer.
     for cabinet in 0..64u8 {
         if heights[cabinet as usize] == level {
             reach_all(network, heights, cabinet, level + 1);

@@ -14,6 +14,14 @@ use flow::taps::Taps;
 use residual::raise::far_end;
 use residual::residual::Residual;
 
+// What a flow leaves free, and the heights of the cabinets, each of which is below the bound that no height reaches.
+#[derive(Clone, Copy)]
+pub struct Landscape<'a> {
+    pub residual: Residual<'a>,
+    pub heights: &'a [u8; 64],
+    ghost low: { Low heights.now },
+}
+
 // The better of `best` and a way over which `room` more can go.
 fn lower(best: Option<Best>, height: u8, room: u32, way: Way) -> Option<Best>
     ensures { result ≡ lowered best height room way }
@@ -23,37 +31,6 @@ fn lower(best: Option<Best>, height: u8, room: u32, way: Way) -> Option<Best>
     } else {
         best
     }
-}
-
-// The better of `best` and the way out of `at` over a link.
-fn over_link(
-    residual: &Residual<'_>,
-    heights: &[u8; 64],
-    at: u8,
-    link: u16,
-    best: Option<Best>,
-) -> Option<Best>
-    requires listed { link < length (links_in residual.now.network.now) }
-    requires low { Low heights.now }
-    ensures { result ≡ lowered best (high heights.now (across (mesh_of (links_in residual.now.network.now)) at link) + 1) (free (links_in residual.now.network.now) residual.now.flow.now at link) (Way.Over link) }
-{
-    let arc = residual.network.job.links()[link as usize];
-    let height = heights[far_end(arc, at) as usize] + 1;
-    lower(best, height, residual.free(at, link), Way::Over(link))
-}
-
-// The lowest open way out of `at` over a link, if there is one.
-fn over_links(residual: &Residual<'_>, heights: &[u8; 64], at: u8) -> Option<Best>
-    requires inside { at < 64 }
-    requires low { Low heights.now }
-    ensures least { (m : ℕ) → UpTo result m → (l : ℕ) → Bounds (links_in residual.now.network.now) residual.now.flow.now heights.now at m l }
-    ensures leads { (places most amount : TapsOf ℕ) → Leads (links_in residual.now.network.now) places most amount residual.now.flow.now heights.now at result }
-{
-    let mut best = None;
-    for link in residual.network.row(at) {
-        best = over_link(residual, heights, at, *link, best);
-    }
-    best
 }
 
 // What can go along a way at the cabinet `at`, if that is where it starts.
@@ -85,23 +62,43 @@ fn into_feed(job: &Job<'_>, amounts: Taps<u32>, at: u8, best: Option<Best>) -> O
     lower(lower(best, 67, first, Way::Feed1), 67, second, Way::Feed2)
 }
 
-// The lowest open way out of `at`, if there is one. No way is lower than into a drain.
-pub fn lowest(
-    residual: &Residual<'_>,
-    amounts: Taps<u32>,
-    heights: &[u8; 64],
-    at: u8,
-) -> Option<Best>
-    requires inside { at < 64 }
-    requires low { Low heights.now }
-    requires amounts { Each ◌≤◌ amounts residual.now.network.now.job.now.most }
-    ensures least { (m : ℕ) → UpTo result m → Least (links_in residual.now.network.now) residual.now.network.now.job.now.at residual.now.network.now.job.now.most amounts residual.now.flow.now heights.now at m }
-    ensures leads { Leads (links_in residual.now.network.now) residual.now.network.now.job.now.at residual.now.network.now.job.now.most amounts residual.now.flow.now heights.now at result }
-{
-    let job = residual.network.job;
-    let drain = into_drain(job, amounts, at);
-    if drain.is_some() {
-        return drain;
+impl<'a> Landscape<'a> {
+    // The better of `best` and the way out of `at` over a link.
+    fn over_link(&self, at: u8, link: u16, best: Option<Best>) -> Option<Best>
+        requires { link < length (links_in self.now.residual.network.now) }
+        ensures { result ≡ lowered best (high self.now.heights.now (across (mesh_of (links_in self.now.residual.network.now)) at link) + 1) (free (links_in self.now.residual.network.now) self.now.residual.flow.now at link) (Way.Over link) }
+    {
+        let arc = self.residual.network.job.links()[link as usize];
+        let height = self.heights[far_end(arc, at) as usize] + 1;
+        lower(best, height, self.residual.free(at, link), Way::Over(link))
     }
-    into_feed(job, amounts, at, over_links(residual, heights, at))
+
+    // The lowest open way out of `at` over a link, if there is one.
+    fn over_links(&self, at: u8) -> Option<Best>
+        requires { at < 64 }
+        ensures least { (m : ℕ) → UpTo result m → (l : ℕ) → Bounds (links_in self.now.residual.network.now) self.now.residual.flow.now self.now.heights.now at m l }
+        ensures leads { (places most amount : TapsOf ℕ) → Leads (links_in self.now.residual.network.now) places most amount self.now.residual.flow.now self.now.heights.now at result }
+    {
+        let mut best = None;
+        for link in self.residual.network.row(at) {
+            best = self.over_link(at, *link, best);
+        }
+        best
+    }
+
+    // The lowest open way out of `at`, if there is one. No way is lower than into a drain.
+    pub fn lowest(&self, amounts: Taps<u32>, at: u8) -> Option<Best>
+        requires inside { at < 64 }
+        requires amounts { Each ◌≤◌ amounts self.now.residual.network.now.job.now.most }
+        ensures least { (m : ℕ) → UpTo result m → Least (links_in self.now.residual.network.now) self.now.residual.network.now.job.now.at self.now.residual.network.now.job.now.most amounts self.now.residual.flow.now self.now.heights.now at m }
+        ensures leads { Leads (links_in self.now.residual.network.now) self.now.residual.network.now.job.now.at self.now.residual.network.now.job.now.most amounts self.now.residual.flow.now self.now.heights.now at result }
+    {
+        let job = self.residual.network.job;
+        // Kept: a closure under `or_else` would ask for the facts of this call once more.
+        let drain = into_drain(job, amounts, at);
+        if drain.is_some() {
+            return drain;
+        }
+        into_feed(job, amounts, at, self.over_links(at))
+    }
 }

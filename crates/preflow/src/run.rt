@@ -6,7 +6,7 @@ ghost use Rattle.preflow.specs.States.{Active};
 ghost use Rattle.preflow.specs.Heights.{high};
 
 use crate::distance::distances;
-use crate::lowest::lowest;
+use crate::lowest::Landscape;
 use crate::relabel::relabel;
 use crate::send::send;
 use crate::start::{fill, full, line_up};
@@ -38,6 +38,7 @@ fn portion(room: u32, excess: u32) -> u32
 
 impl<'a, 'q> Run<'a, 'q> {
     ghost use Rattle.preflow.specs.Runs.{IsFirst, LeastAt, OpenAt, AdmissibleAt, Stays, Goes};
+    // Kept: the first cabinet is looked up once a turn and handed on; a step that looked it up again would ask in its place that one waits. What a step leaves is a promise of each step.
 
     // The preflow to start from: all that the feeds let in stands at their cabinets, and these are as high as they are far from a drain.
     pub fn begin(
@@ -77,7 +78,11 @@ impl<'a, 'q> Run<'a, 'q> {
             network: self.network,
             flow: self.flow,
         };
-        lowest(&residual, self.state.amounts, &self.state.heights, first).unwrap()
+        let landscape = Landscape {
+            residual,
+            heights: &self.state.heights,
+        };
+        landscape.lowest(self.state.amounts, first).unwrap()
     }
 
     // Lifts the first cabinet to just above its lowest open way.

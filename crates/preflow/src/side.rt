@@ -11,6 +11,7 @@ pub fn gap(heights: &[u8; 64]) -> u8
     ensures low { result ≤ 65 }
     ensures empty { Empty heights.now result }
 {
+    // Kept: tried as a `find` over the range; that the level found is empty stayed open, since no range says what it gives.
     for level in 1..65 {
         if is_level_empty(heights, level) {
             return level;

@@ -1,4 +1,5 @@
 // The cabinets that wait for their turn.
+// Kept: the queue is lent to these steps on its own, since between them the fact that a run keeps of it need not hold; so each step says that the places stay.
 ghost use Rattle.std.specs.Prelude.{◌≡◌, ◌<◌, [], ◌∷◌, ◌++◌, length, drop, IfSome};
 ghost use Rattle.search.specs.Queues.{items, room};
 ghost use Rattle.preflow.specs.Waits.{arrived, parted, settled};

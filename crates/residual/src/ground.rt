@@ -6,6 +6,7 @@ use crate::residual::Residual;
 use search::ground::Ground;
 use search::links::Ends;
 
+// Kept: what every ground asks of its net is one call each; a default in the trait would need the type of the links in it.
 impl<'a> Ground for Residual<'a> {
     ghost graph = { graph_of };
 

@@ -22,13 +22,6 @@ pub fn far_end(arc: Arc, at: u8) -> u8
     arc.ends().other(at)
 }
 
-// The lesser of two amounts.
-fn lesser(a: u32, b: u32) -> u32
-    ensures { result ≡ min a b }
-{
-    a.min(b)
-}
-
 // The least of `most` and what is free on each link of a path of open steps.
 pub fn least_free(ground: &Residual<'_>, from: u8, path: &[u16], most: u32) -> u32
     requires { OpenPath (residual (links_in ground.now.network.now) ground.now.flow.now 1) from path.now }
@@ -37,7 +30,7 @@ pub fn least_free(ground: &Residual<'_>, from: u8, path: &[u16], most: u32) -> u
     let mut by = most;
     let mut cabinet = from;
     for link in path {
-        by = lesser(by, ground.free(cabinet, *link));
+        by = by.min(ground.free(cabinet, *link));
         cabinet = far_end(ground.network.job.links()[*link as usize], cabinet);
     }
     by

@@ -5,15 +5,16 @@ use augmenting::augmenting::Augmenting;
 use engine::arc::Arc;
 use engine::greatest::greatest_total;
 use engine::trim::Trim;
+use flow::ranges::{MOST_FED, MOST_LIMIT};
 use preflow::preflow::Preflow;
 use samples::jobs::{Shape, next_job};
 use samples::random::Random;
 use std::io;
 
-// Kept: each number of this shape differs from the pile's, so a shared function would take five of them and say less.
+// Kept: five numbers of this shape differ from the pile's, so a shared function would be handed them all and say less.
 // The shape of a job: from two cabinets to 64, from few links to 512; small limits, so that many are 0, and wide ones in turn.
 fn shape_of(number: u8) -> Shape {
-    let limits = if number % 2 == 0 { 3 } else { 524_288 };
+    let limits = if number % 2 == 0 { 3 } else { MOST_LIMIT };
     Shape {
         links: if number < 90 {
             2 + 2 * number as usize
@@ -23,7 +24,7 @@ fn shape_of(number: u8) -> Shape {
         cabinets: if number < 90 { 2 + number / 2 } else { 64 },
         limits,
         fed: if number % 3 == 0 {
-            536_870_912
+            MOST_FED
         } else {
             4 * limits
         },

@@ -1,7 +1,7 @@
 // Jobs of a shape, one after the other.
-ghost use Rattle.std.specs.Prelude.{◌≡◌, IsSome, IfSome};
+ghost use Rattle.std.specs.Prelude.{◌≡◌, ◌≤◌, IsSome, IfSome};
 ghost use Rattle.flow.specs.Ranges.{cabinets};
-ghost use Rattle.flow.specs.Answers.{Placed};
+ghost use Rattle.flow.specs.Answers.{Each, Placed};
 ghost use Rattle.engine.specs.Arcs.{Sound, AllSound, Limited};
 ghost use Rattle.samples.specs.Shapes.{IsUsable, Shaped};
 
@@ -25,6 +25,22 @@ pub struct Shape {
 struct Usable {
     shape: Shape,
     ghost usable: { IsUsable shape },
+}
+
+// Four numbers, each at most `most`.
+fn next_four(random: &mut Random, most: u32) -> Taps<u32>
+    ensures { Each ◌≤◌ result (record { feed1 = most; feed2 = most; drain1 = most; drain2 = most }) }
+{
+    let feed1 = random.up_to(most);
+    let feed2 = random.up_to(most);
+    let drain1 = random.up_to(most);
+    let drain2 = random.up_to(most);
+    Taps {
+        feed1,
+        feed2,
+        drain1,
+        drain2,
+    }
 }
 
 impl Usable {
@@ -73,16 +89,12 @@ impl Usable {
     fn next_places(self, random: &mut Random) -> Taps<u8>
         ensures { Placed cabinets result }
     {
-        let last = self.shape.cabinets as u32 - 1;
-        let feed1 = random.up_to(last) as u8;
-        let feed2 = random.up_to(last) as u8;
-        let drain1 = random.up_to(last) as u8;
-        let drain2 = random.up_to(last) as u8;
+        let numbers = next_four(random, self.shape.cabinets as u32 - 1);
         Taps {
-            feed1,
-            feed2,
-            drain1,
-            drain2,
+            feed1: numbers.feed1 as u8,
+            feed2: numbers.feed2 as u8,
+            drain1: numbers.drain1 as u8,
+            drain2: numbers.drain2 as u8,
         }
     }
 
@@ -90,16 +102,7 @@ impl Usable {
     fn next_limits(self, random: &mut Random) -> Taps<u32>
         ensures { Limited result }
     {
-        let feed1 = random.up_to(self.shape.fed);
-        let feed2 = random.up_to(self.shape.fed);
-        let drain1 = random.up_to(self.shape.fed);
-        let drain2 = random.up_to(self.shape.fed);
-        Taps {
-            feed1,
-            feed2,
-            drain1,
-            drain2,
-        }
+        next_four(random, self.shape.fed)
     }
 }
 

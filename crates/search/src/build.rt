@@ -27,6 +27,7 @@ fn bump_both(counts: &mut [u16; 64], ends: Ends)
 }
 
 // How many links touch each cabinet.
+// Kept: here and below the links are bare, since the net that keeps them lawful is made of what these passes build.
 pub fn count<T: Joins>(links: &[T]) -> [u16; 64]
     requires { Lawful (mesh_by T.first T.second T.none links.now) }
     ensures long { length result ≡ 64 }

@@ -5,6 +5,7 @@ ghost use Rattle.search.specs.Graphs.{Graph, Lawful, incident};
 use crate::links::Ends;
 
 // Links between cabinets, and which steps over them are open. To ask alters nothing.
+// Kept: cabinets are plain numbers by the project's rule, so here and in this crate a bound of 64 is asked where they are places of an array.
 pub trait Ground {
     ghost graph: { Self → Graph };
 

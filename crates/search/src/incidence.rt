@@ -7,6 +7,7 @@ use crate::build::{count, fill, starts_of};
 use crate::links::Joins;
 
 // For each cabinet the links that touch it: the entries from the cabinet's start up to the next one's.
+// Kept: two arrays in fixed memory; a list for each cabinet would need the heap.
 #[derive(Drop)]
 pub struct Incidence {
     starts: [u16; 65],

@@ -3,6 +3,7 @@ ghost use Rattle.std.specs.Prelude.{◌≡◌, ◌-◌, ◌<◌, ◌≤◌, [], 
 ghost use Rattle.search.specs.Rings.{held, after, behind, Pushed, Written, Popped, Fronted};
 
 // A ring: the items stand from `head` on, and go on from place 0 where they pass the end. The head is a place, if there is one.
+// Kept: a head and a length over lent places, by the project's rule, so that a search takes no memory of its own.
 #[derive(Drop)]
 pub struct Queue<'a, T> {
     places: &'a mut [T],

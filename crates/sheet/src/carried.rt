@@ -23,6 +23,7 @@ pub(crate) struct Carried<'a> {
     ghost long: { length shares.now ≡ length (links_in net) },
 }
 
+// Kept: what every ground asks of its net is one call each; a default in the trait would need the type of the links in it.
 impl<'a> Ground for Carried<'a> {
     ghost graph = { λ c. CarriedBy (links_in c.net) c.shares.now };
 

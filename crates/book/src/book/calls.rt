@@ -13,6 +13,7 @@ use flow::pairs::Pairs;
 use mesh::fault::Fault;
 use std::alloc::{AllocError, Global};
 
+// Kept: what a refusal leaves is a promise of each call and no fact about a value, so each contract says it.
 impl Book {
     // An empty book, with all the memory that it will need.
     pub fn open(heap: Global) -> Result<Book, AllocError>

@@ -13,6 +13,7 @@ use plan::listed::Plan;
 use plan::sides::Sides;
 
 // The first places of `to` become those of `from`; later places stay.
+// Kept: `copy_from_slice` for the front of a longer list, by a name and with what stays.
 fn copy_front(to: &mut [i32], from: &[i32])
     requires { length from.now ≤ length to.old }
     ensures { to.new ≡ from.now ++ drop (length from.now) to.old }

@@ -18,6 +18,7 @@ impl fmt::Display for Layer {
     }
 }
 
+// Kept: here and in the crates beside it `number` says which number is meant, which `u8::from` would not.
 impl Missing {
     // The number by which a sheet reports what it lacks.
     pub fn number(self) -> u8

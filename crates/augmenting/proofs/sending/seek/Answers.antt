@@ -1,11 +1,10 @@
-use Rattle.std.proofs.Common.{◌≡◌, ◌-◌, take, ap}
-use native.Mathlib.Nat.{sub-zero}
+use Rattle.std.proofs.Common.{arith}
+use Rattle.std.proofs.lemmas.List.{length-take}
 use Rattle.augmenting.proofs.Amounts.{found_route}
 use Rattle.augmenting.proofs.sending.seek.Goals as goal
 
 pub returns : goal.returns
 returns c =
-    let n = c.in_ok-count.count in
-    let found = c.in_ok-count.ensures in
-    let front : take (n - 0) c.find_path.new.path ≡ take n c.find_path.new.path = ap (λ m. take m c.find_path.new.path) (sub-zero n) in
-    found_route c.args.network.now.job.now _ _ _ _ c.find_path.new.path _ n _ front c.least_free-by.ensures c.requires.some found.way found.short
+    let found = c.in-Some.ensures in
+    let route = found_route c.args.network.now.job.now _ _ _ _ _ _ c.least_free-by.ensures c.requires.some found.way in
+    (route.0, route.1, route.2, omega (arith, found.short, length-take c.in-Some.count c.find_path.new.path))

@@ -14,4 +14,4 @@ loop-link-preserved c =
     let i = c.loop-link.link-index in
     let h = c.loop-link-test.true in
     let far : c.far_end-cabinet.result ≡ across (mesh_of ls) c.loop-link.cabinet (get_or path i 0) = c.far_end-cabinet.ensures ∙ ap (λ k. across (mesh_of k) c.loop-link.cabinet (get_or path i 0)) c.links.ensures.links in
-    (subst (λ v. OpenPath (residual ls fs 1) v (drop (i + 1) path)) (sym far) (front_open _ _ _ _ h c.loop-link.invariant.0).1, least_more ls fs c.loop-link.cabinet path i _ _ _ _ h (c.lesser-by.ensures ∙ ap (min c.loop-link.by) c.free.ensures) far c.loop-link.invariant.1)
+    (subst (λ v. OpenPath (residual ls fs 1) v (drop (i + 1) path)) (sym far) (front_open _ _ _ _ h c.loop-link.invariant.0).1, least_more ls fs c.loop-link.cabinet path i _ _ _ _ h (c.min-by.ensures ∙ ap (min c.loop-link.by) c.free.ensures) far c.loop-link.invariant.1)

@@ -1,4 +1,4 @@
-use Rattle.std.proofs.Common.{◌≡◌, ℕ, ◌+◌, ◌-◌, ◌≤◌, min, ltb, sym, ap, ◌∙◌, subst, arith}
+use Rattle.std.proofs.Common.{◌≡◌, ℕ, ◌+◌, ◌-◌, ◌≤◌, min, ltb, sym, refl, ap, ◌∙◌, subst, arith}
 use Rattle.flow.specs.declared.taps.Taps.{Taps}
 use Rattle.engine.specs.Totals.{FeasibleFlow}
 use Rattle.residual.specs.Networks.{links_in}
@@ -20,7 +20,7 @@ returns-then-room-eq0-clause-turned c =
     let p = c.args.pair in
     let r = c.args.self.now.amounts in
     let room = room_at c.most-most.result j.most r p _ c.most-most.ensures c.room_between-room.ensures in
-    blocked_full j _ r p c.can_give.result (sym room ∙ c.if-room-eq0.true) (c.can_give.ensures ∙ ap (λ t. ltb (feed_of r p.from) (feed_of t p.from)) c.most-most.ensures)
+    (refl, blocked_full j _ r p c.can_give.result (sym room ∙ c.if-room-eq0.true) (c.can_give.ensures ∙ ap (λ t. ltb (feed_of r p.from) (feed_of t p.from)) c.most-most.ensures))
 
 pub invariant_of-self-2 : goal.invariant_of-self-2
 invariant_of-self-2 c =
