@@ -131,9 +131,8 @@ fn main(rt: HostRuntime) -> io::Result<()> {
         fed: MOST_FED,
     };
     let mut random = Random { state: 1 };
-    let mut room = [Arc::default(); 512];
     for number in 0..8u32 {
-        if let Some(job) = next_job(&mut random, shape, &mut room) {
+        if let Some(job) = next_job(&mut random, shape) {
             bench.show("job", number, &job)?;
             bench.draw(number, &job)?;
         }

@@ -4,7 +4,6 @@
 #![tactic(auto)]
 
 use augmenting::augmenting::Augmenting;
-use engine::arc::Arc;
 use engine::engine::Engine;
 use engine::job::Job;
 use flow::ranges::{MOST_FED, MOST_LIMIT};
@@ -84,7 +83,6 @@ fn main(rt: HostRuntime) -> io::Result<()> {
         |mode, word| Mode::try_from(word.as_str()).unwrap_or(mode),
     );
     let mut random = Random { state: 1 };
-    let mut room = [Arc::default(); 512];
     for links in [64, 128, 256, 512] {
         let shape = Shape {
             links,
@@ -93,7 +91,7 @@ fn main(rt: HostRuntime) -> io::Result<()> {
             fed: MOST_FED,
         };
         for number in 0..8u32 {
-            if let Some(job) = next_job(&mut random, shape, &mut room) {
+            if let Some(job) = next_job(&mut random, shape) {
                 show(&rt, mode, number, &job)?;
             }
         }

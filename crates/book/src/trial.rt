@@ -1,5 +1,3 @@
-ghost use Rattle.std.specs.Prelude.{◌≡◌};
-
 use mesh::fault::Fault;
 
 // An outage trial that stands: the link that is out, and the slots that it had before.
@@ -14,24 +12,10 @@ pub struct Receipt {
     pub(crate) trial: Trial,
 }
 
-impl Receipt {
-    // The link that is out.
-    pub fn link(&self) -> u16
-        ensures { result ≡ self.now.trial.link }
-    {
-        self.trial.link
-    }
-
-    // The slots that it had before.
-    pub fn slots(&self) -> u32
-        ensures { result ≡ self.now.trial.slots }
-    {
-        self.trial.slots
-    }
-}
-
 // A close that was refused: the receipt comes back with the reason.
 pub struct Refused {
     pub receipt: Receipt,
     pub fault: Fault,
 }
+
+pub mod spending;

@@ -3,20 +3,22 @@ ghost use Rattle.std.specs.Prelude.{◌≤◌, length};
 ghost use Rattle.flow.specs.Ranges.{cabinets, most_links};
 ghost use Rattle.flow.specs.Answers.{Placed};
 ghost use Rattle.engine.specs.Arcs.{AllSound, Limited};
+ghost use Rattle.engine.specs.Lists.{listed};
 
-use crate::arc::Arc;
 use flow::taps::Taps;
+use links::Links;
 
 mod calls;
+mod links;
 
-// The links are lent to it. The cabinets may coincide, and so may the ends of several links.
+// The cabinets may coincide, and so may the ends of several links.
 #[derive(Clone, Copy)]
 pub struct Job<'a> {
-    links: &'a [Arc],
+    links: Links<'a>,
     at: Taps<u8>,
     most: Taps<u32>,
-    ghost few: { length links.now ≤ most_links },
-    ghost sound: { AllSound links.now },
+    ghost few: { length (listed links) ≤ most_links },
+    ghost sound: { AllSound (listed links) },
     ghost placed: { Placed cabinets at },
     ghost limited: { Limited most },
 }

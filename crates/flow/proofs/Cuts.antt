@@ -2,6 +2,7 @@
 use Rattle.std.proofs.Common.{◌≡◌, ℕ, suc, ◌+◌, ◌*◌, ◌<◌, ◌≤◌, Bool, true, false, cond, not, ◌&&◌, ◌||◌, ◌⊎◌, List, [], ◌∷◌, length, get_or, ℤ, pos, sym, refl, ap, ◌∙◌, ap₂, inl, inr, le_refl, arith}
 use Rattle.std.proofs.lemmas.Bool.{false≢true}
 use Rattle.flow.specs.declared.pairs.Pairs.{Pairs}
+use Rattle.flow.specs.Ranges.{most_links, most_limit, most_fed}
 use Rattle.flow.specs.Nets.{xor, total, crosses, side_slots, Inside}
 use Rattle.flow.specs.Plans.{Proper, Held}
 use Rattle.flow.specs.Drawings.{Doubled}
@@ -146,3 +147,7 @@ module _ {X : Type 0} (low high capacity : X → ℕ) where
 pub total_within : {X : Type 0} (limit : X → ℕ) (m : ℕ) (ls : List X) → ((k : ℕ) (d : X) → k < length ls → limit (get_or ls k d) ≤ m) → total limit ls ≤ length ls * m
 total_within limit m [] h = omega arith
 total_within limit m (l ∷ ls) h = omega (arith, h 0 l (omega arith), total_within limit m ls (λ k d q. h (suc k) d (omega arith)))
+
+-- so the links of a job carry less than a feed can have
+pub total_few : {X : Type 0} (limit : X → ℕ) (ls : List X) → length ls ≤ most_links → ((k : ℕ) (d : X) → k < length ls → limit (get_or ls k d) ≤ most_limit) → total limit ls < most_fed
+total_few limit ls few h = omega (arith, total_within limit most_limit ls h)

@@ -3,6 +3,7 @@ use Rattle.std.proofs.Common.{◌≡◌, ℕ, zero, suc, ◌+◌, ◌<◌, ◌�
 use lib.IntN.{+ℤ_idl}
 use Rattle.std.proofs.lemmas.List.Elements.{filter_more}
 use Rattle.std.proofs.lemmas.List.{append-nil, append_assoc, drop_more, length-take-le, set_at, take_more}
+use Rattle.std.proofs.lemmas.List.Sums.{length-filter, sum_by-take-le}
 use Rattle.std.proofs.lemmas.Bool.{le-ltb, lt-ltb, ltb-false}
 use Rattle.flow.specs.declared.taps.Taps.{Taps}
 use Rattle.flow.specs.Nets.{only, here, after, leaving, crosses, side_slots}
@@ -71,6 +72,9 @@ module _ {X : Type 0} (limit : X → ℕ) where
       by : (t : Bool) → ((gs : List ℤ) → dealt limit (ls ++ x ∷ []) gs ≡ dealt limit ls gs ++ next_flow x gs (length (trimmed limit ls)) ∷ []) → cond t (here fs ∷ dealt limit (ls ++ x ∷ []) (after fs)) (pos 0 ∷ dealt limit (ls ++ x ∷ []) fs) ≡ cond t (here fs ∷ dealt limit ls (after fs)) (pos 0 ∷ dealt limit ls fs) ++ next_flow x fs (length (cond t (l ∷ trimmed limit ls) (trimmed limit ls))) ∷ []
       by true h = ap (λ t. here fs ∷ t) (h (after fs) ∙ ap (λ z. dealt limit ls (after fs) ++ cond (can_carry limit x) z (pos 0) ∷ []) (after_at fs (length (trimmed limit ls))))
       by false h = ap (λ t. pos 0 ∷ t) (h fs)
+
+  pub trimmed_front : (ls : List X) (i : ℕ) → length (trimmed limit (take i ls)) ≤ length (trimmed limit ls)
+  trimmed_front ls i = omega (arith, length-filter (can_carry limit) (take i ls), length-filter (can_carry limit) ls, sum_by-take-le (λ x. cond (can_carry limit x) 1 0) ls i)
 
   module _ (ls : List X) (i : ℕ) (d : X) (h : i < length ls) where
     pub trimmed_yes : 0 < limit (get_or ls i d) → trimmed limit (take (i + 1) ls) ≡ trimmed limit (take i ls) ++ get_or ls i d ∷ []

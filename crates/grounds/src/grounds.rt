@@ -15,6 +15,8 @@ pub struct Slotted<'a> {
 }
 
 // Kept: what every ground asks of its net is one call each; a default in the trait would need the type of the links in it.
+// A link's ends are read as a value and not through `Net::ends`: so the compiler knows that the link is in range, and
+// does not test that again where `is_open` looks for its slots.
 impl<'a> Ground for Slotted<'a> {
     ghost graph = { λ s. slotted (links_in s.net.now) s.slots.now };
 
@@ -25,7 +27,7 @@ impl<'a> Ground for Slotted<'a> {
     }
 
     fn ends(&self, link: u16) -> Ends {
-        self.net.ends(link)
+        self.net.links()[link as usize]
     }
 
     fn is_open(&self, _cabinet: u8, link: u16) -> bool {
@@ -55,7 +57,7 @@ impl<'a> Ground for OneWay<'a> {
     }
 
     fn ends(&self, link: u16) -> Ends {
-        self.net.ends(link)
+        self.net.links()[link as usize]
     }
 
     fn is_open(&self, cabinet: u8, link: u16) -> bool {

@@ -2,7 +2,6 @@
 #![tactic(auto)]
 
 use augmenting::augmenting::Augmenting;
-use engine::arc::Arc;
 use engine::greatest::greatest_total;
 use engine::trim::Trim;
 use flow::ranges::{MOST_FED, MOST_LIMIT};
@@ -35,9 +34,8 @@ fn main(rt: HostRuntime) -> io::Result<()> {
         below: Trim { below: Augmenting },
     };
     let mut random = Random { state: 7 };
-    let mut room = [Arc::default(); 512];
     for number in 0..36u8 {
-        match next_job(&mut random, shape_of(number), &mut room) {
+        match next_job(&mut random, shape_of(number)) {
             Some(job) => {
                 let piled = greatest_total(&mut pile, &job);
                 let bare = greatest_total(&mut Augmenting, &job);

@@ -58,16 +58,16 @@ module _ (b : Option Best) (m n : ℕ) (w : Way) where
     then_bound some k h = lowered_bound some k (subst (λ (y : Option Best). UpTo y k) e h)
 
 -- what can go along a way that starts at c, seen from v
-here_all : (c v n : ℕ) → c ≡ v → here c v n ≡ n
+pub here_all : (c v n : ℕ) → c ≡ v → here c v n ≡ n
 here_all c v n e = cond-true (eqb c v) n 0 (eq-eqb c v e)
 
 -- one link more in the search for the lowest way
 module _ (ls : List Arc) (fs : List ℤ) (hs : List ℕ) (v : ℕ) where
   module _ (best next : Option Best) (l : ℕ) (e : next ≡ lowered best (high hs (across (mesh_of ls) v l) + 1) (free ls fs v l) (Over l)) where
-    scan_here : (m : ℕ) → UpTo next m → Bounds ls fs hs v m l
+    pub scan_here : (m : ℕ) → UpTo next m → Bounds ls fs hs v m l
     scan_here m h step = then_bound best (high hs (across (mesh_of ls) v l) + 1) (free ls fs v l) (Over l) next e (leb-true 1 (free ls fs v l) step.clear) m h
 
-    scan_le : (m : ℕ) → UpTo next m → UpTo best m
+    pub scan_le : (m : ℕ) → UpTo next m → UpTo best m
     scan_le = then_le best (high hs (across (mesh_of ls) v l) + 1) (free ls fs v l) (Over l) next e
 
     pub scan_leads : l < length ls → touches (mesh_of ls) v l ≡ true → (at most amount : Taps ℕ) → Leads ls at most amount fs hs v best → Leads ls at most amount fs hs v next

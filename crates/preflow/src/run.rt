@@ -1,9 +1,11 @@
 // Preflow pushing at work on a job.
 ghost use Rattle.std.specs.Prelude.{◌≡◌, ℕ, ◌<◌, ◌≤◌, min, [], length, drop, slice_index};
+ghost use Rattle.flow.specs.Ranges.{cabinets};
 ghost use Rattle.search.specs.Queues.{items, room};
 ghost use Rattle.residual.specs.Networks.{links_in};
 ghost use Rattle.preflow.specs.States.{Active};
 ghost use Rattle.preflow.specs.Heights.{high};
+ghost use Rattle.preflow.specs.Starts.{begun, filled, Distances};
 
 use crate::distance::distances;
 use crate::lowest::Landscape;
@@ -49,6 +51,10 @@ impl<'a, 'q> Run<'a, 'q> {
         requires items { items queue.old ≡ [] }
         requires room { 65 ≤ room queue.old }
         ensures network { result.network.now ≡ network.now }
+        ensures amounts { result.state.amounts ≡ begun network.now.job.now.most }
+        ensures excess { result.state.excess ≡ filled network.now.job.now.at network.now.job.now.most }
+        ensures tall { length result.state.heights ≡ cabinets }
+        ensures distances { Distances (links_in network.now) network.now.job.now.at network.now.job.now.most result.state.heights }
         ensures lent { result.flow.ghost_name ≡ flow.entry.ghost_name }
         ensures beyond { drop (length (links_in network.now)) result.flow.now ≡ drop (length (links_in network.now)) flow.old }
     {

@@ -2,7 +2,6 @@
 #![tactic(auto)]
 
 use augmenting::augmenting::Augmenting;
-use engine::arc::Arc;
 use engine::greatest::greatest_total;
 use engine::trim::Trim;
 use flow::ranges::{MOST_FED, MOST_LIMIT};
@@ -36,9 +35,8 @@ fn main(rt: HostRuntime) -> io::Result<()> {
         below: Trim { below: Preflow },
     };
     let mut random = Random { state: 11 };
-    let mut room = [Arc::default(); 512];
     for number in 0..100u8 {
-        match next_job(&mut random, shape_of(number), &mut room) {
+        match next_job(&mut random, shape_of(number)) {
             Some(job) => {
                 let pushed = greatest_total(&mut Preflow, &job);
                 let raised = greatest_total(&mut Augmenting, &job);

@@ -106,11 +106,12 @@ impl Usable {
     }
 }
 
-// The next job of a shape, with its links at the front of `room`; or none where the shape is out of range.
-pub fn next_job<'a>(random: &mut Random, shape: Shape, room: &'a mut [Arc; 512]) -> Option<Job<'a>>
+// The next job of a shape, or none where the shape is out of range.
+pub fn next_job<'a>(random: &mut Random, shape: Shape) -> Option<Job<'a>>
     ensures { Shaped shape result }
 {
     let usable = Usable::of(shape)?;
+    let mut room = [Arc::default(); 512];
     let links = &mut room[0..shape.links];
     usable.write_arcs(random, links);
     let at = usable.next_places(random);

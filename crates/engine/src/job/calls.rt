@@ -1,11 +1,12 @@
 // Making a job, which refuses numbers out of range, and reading it.
-ghost use Rattle.std.specs.Prelude.{◌≡◌, ◌≤◌, true, length, Decides};
+ghost use Rattle.std.specs.Prelude.{◌≡◌, ◌≤◌, true, length, take, Decides};
 ghost use Rattle.flow.specs.Ranges.{cabinets, most_links};
 ghost use Rattle.flow.specs.Answers.{Placed};
 ghost use Rattle.engine.specs.Arcs.{Sound, AllSound, Limited, Fits};
 ghost use Rattle.engine.specs.Jobs.{Made, links_of};
 
 use super::Job;
+use super::links::{Links, Own};
 use crate::arc::Arc;
 use flow::ranges::{CABINETS, MOST_FED, MOST_LIMIT, MOST_LINKS};
 use flow::taps::Taps;
@@ -37,24 +38,37 @@ fn are_limited(most: Taps<u32>) -> bool
     most.all(|limit| limit <= MOST_FED)
 }
 
+// A copy of a list of links.
+fn copied(links: &[Arc]) -> Own
+    requires { length links.now ≤ most_links }
+    ensures { take result.count result.arcs ≡ links.now }
+{
+    let mut arcs = [Arc::default(); 512];
+    let count = links.len();
+    arcs[..count].copy_from_slice(links);
+    Own { arcs, count }
+}
+
 impl<'a> Job<'a> {
-    // The job with these links, cabinets and limits, or none where a number is out of range.
-    pub fn new(links: &'a [Arc], at: Taps<u8>, most: Taps<u32>) -> Option<Job<'a>>
+    // The job with a copy of these links, these cabinets and limits, or none where a number is out of range.
+    pub fn new(links: &[Arc], at: Taps<u8>, most: Taps<u32>) -> Option<Job<'a>>
         ensures { Made links.now at most result }
     {
         if links.len() > MOST_LINKS || !are_sound(links) || !are_placed(at) || !are_limited(most) {
             return None;
         }
-        Some(Job::of(links, at, most))
+        let links = Links::Own(copied(links));
+        Some(Job { links, at, most })
     }
 
-    // The job with these links, cabinets and limits, all of which are in range.
+    // The job with these links, which are lent to it, and these cabinets and limits, all of which are in range.
     pub fn of(links: &'a [Arc], at: Taps<u8>, most: Taps<u32>) -> Job<'a>
         requires { Fits links.now at most }
         ensures links { links_of result ≡ links.now }
         ensures at { result.at ≡ at }
         ensures most { result.most ≡ most }
     {
+        let links = Links::Lent(links);
         Job { links, at, most }
     }
 
@@ -67,18 +81,21 @@ impl<'a> Job<'a> {
         ensures most { result.most ≡ self.now.most }
     {
         Job {
-            links,
+            links: Links::Lent(links),
             at: self.at,
             most: self.most,
         }
     }
 
     // The links in order.
-    pub fn links(&self) -> &'a [Arc]
+    pub fn links(&self) -> &[Arc]
         ensures links { result.now ≡ links_of self.now }
         ensures few { length result.now ≤ most_links }
     {
-        self.links
+        match &self.links {
+            Links::Lent(links) => links,
+            Links::Own(own) => &own.arcs[0..own.count],
+        }
     }
 
     // The cabinets of the feeds and drains.
